@@ -1,0 +1,2 @@
+-- Lemmas on marks.
+pub mod Marks

@@ -1,0 +1,19 @@
+-- What a mark tells: its number, its core and its count. Assumes nothing.
+use mathlib.Core.Bool.{Bool, cond}
+use Prim.Native.Nat.{ℕ, _/_, _%_}
+use lib.Dec.{eqb}
+use Rattle.std.specs.declared.option.Option.{Option}
+use Rattle.std.specs.declared.option.Option.the-variants.{Some, None}
+use Rattle.word.specs.declared.mark.Mark.{Mark}
+
+-- the number of a mark
+abbrev pub number : Mark → ℕ
+number m = m .number
+
+-- the core whose store a mark's number tells; a blank mark has none
+abbrev pub core-of : ℕ → Option ℕ
+core-of n = cond (eqb n 0) None (Some (n / 1048576))
+
+-- the count of that store among its core's; 0 of a blank mark
+abbrev pub count-of : ℕ → ℕ
+count-of n = n % 1048576
