@@ -1,0 +1,2 @@
+-- Lemmas on the check of the figures.
+pub mod Passing

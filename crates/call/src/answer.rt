@@ -1,0 +1,143 @@
+//! What a call answers, and the record of it that a run keeps.
+ghost use mathlib.Core.Path.{_≡_};
+ghost use Rattle.call.specs.Calls.{caller-of, kind-of};
+ghost use Rattle.call.specs.Told.{answer-told, refusal-told};
+use crate::call::Call;
+use crate::call::Kind;
+use crate::call::KindDebug;
+use crate::call::KindEq;
+use crate::call::KindPartialEq;
+use crate::refusal::Access;
+use crate::refusal::Refusal;
+use crate::refusal::RefusalDebug;
+use crate::refusal::RefusalEq;
+use crate::refusal::RefusalPartialEq;
+use word::Mark;
+use word::Word;
+use word::mark::MarkDebug;
+use word::mark::MarkEq;
+use word::mark::MarkPartialEq;
+use word::word::WordDebug;
+use word::word::WordEq;
+use word::word::WordPartialEq;
+
+/// What a call answers: accepted with its values, or refused with them.
+#[derive(Clone, Copy, PartialEq, Eq, Debug)]
+pub enum Answer {
+    /// A load: the word, and its source, 0 the core's own copy, 1 the page, 2 the owner's copy.
+    Loaded(Word, u8),
+    /// A store: 0, 1 or 2 for a copy that was owned by this core, by none or by another, and the mark it was given.
+    Stored(u8, Mark),
+    /// Any other call: its answer or number.
+    Done(u16),
+    /// The call is refused.
+    Refused(Refusal),
+}
+
+/// What an answer tells in numbers: the refusal's number, 0 if accepted; the source, answer or number; the value; the
+/// mark. A race tells the earlier core, and 1 for a store or 0 for a load; every other place of a refusal is 0.
+#[derive(Clone, Copy, PartialEq, Eq, Debug)]
+pub struct Told {
+    pub refusal: u8,
+    pub small: u16,
+    pub value: u32,
+    pub mark: u32,
+}
+
+/// One line of a run: who called, what kind of call, and its answer.
+#[derive(Clone, Copy, PartialEq, Eq, Debug)]
+pub struct AnswerRecord {
+    pub caller: u8,
+    pub kind: Kind,
+    pub answer: Answer,
+}
+
+// The record of refused calls: the number alone, but for a race.
+fn plain(refusal: u8) -> Told
+    ensures { λ r. ⌜ r ≡ record { refusal = refusal; small = 0; value = 0; mark = 0 } ⌝ }
+{
+    Told {
+        refusal,
+        small: 0,
+        value: 0,
+        mark: 0,
+    }
+}
+
+impl Refusal {
+    /// The refusal's number and values.
+    pub fn told(self) -> Told
+        ensures { λ r. ⌜ r ≡ refusal-told self ⌝ }
+    {
+        match self {
+            Refusal::NoCore => plain(1),
+            Refusal::OutsideBoard => plain(2),
+            Refusal::Waiting => plain(3),
+            Refusal::ReadOnly => plain(4),
+            Refusal::NotHolder => plain(5),
+            Refusal::Race(core, Access::Load) => Told {
+                refusal: 6,
+                small: core as u16,
+                value: 0,
+                mark: 0,
+            },
+            Refusal::Race(core, Access::Store) => Told {
+                refusal: 6,
+                small: core as u16,
+                value: 1,
+                mark: 0,
+            },
+            Refusal::AllowanceSpent => plain(7),
+            Refusal::NoLock => plain(8),
+            Refusal::HoldsLock => plain(9),
+            Refusal::NotHeld => plain(10),
+            Refusal::BadMode => plain(11),
+            Refusal::LockHeld => plain(12),
+            Refusal::Owned => plain(13),
+        }
+    }
+}
+
+impl Answer {
+    /// The answer's number and values.
+    pub fn told(self) -> Told
+        ensures { λ r. ⌜ r ≡ answer-told self ⌝ }
+    {
+        match self {
+            Answer::Loaded(word, source) => {
+                Told {
+                    refusal: 0,
+                    small: source as u16,
+                    value: word.value,
+                    mark: word.mark.number(),
+                }
+            }
+            Answer::Stored(answer, mark) => Told {
+                refusal: 0,
+                small: answer as u16,
+                value: 0,
+                mark: mark.number(),
+            },
+            Answer::Done(small) => Told {
+                refusal: 0,
+                small,
+                value: 0,
+                mark: 0,
+            },
+            Answer::Refused(refusal) => refusal.told(),
+        }
+    }
+}
+
+impl AnswerRecord {
+    /// The record of a call and its answer.
+    pub fn of(call: Call, answer: Answer) -> AnswerRecord
+        ensures { λ r. ⌜ r ≡ record { caller = caller-of call; kind = kind-of call; answer = answer } ⌝ }
+    {
+        AnswerRecord {
+            caller: call.caller(),
+            kind: call.kind(),
+            answer,
+        }
+    }
+}

@@ -1,0 +1,122 @@
+//! What can be wrong with figures and with a job.
+ghost use mathlib.Core.Path.{_≡_};
+ghost use Rattle.call.specs.Told.{figure-number, figure-place, fault-told};
+ghost use Rattle.call.specs.declared.fault.JobFault.the-variants.{Figures};
+
+/// The first of the five figures that breaks its row.
+#[derive(Clone, Copy, PartialEq, Eq, Debug)]
+pub enum FigureFault {
+    /// No core, or more than 8.
+    Cores,
+    /// No slot, or more than 64.
+    Slots,
+    /// No word, or more than 4,096.
+    Words,
+    /// A strip of no word or more than 4,096, or more words than sixteen strips hold.
+    Strip,
+    /// No store allowed, or more than 1,000,000.
+    Allowance,
+}
+
+/// What is wrong with a job, the first fault in the order of the checks.
+#[derive(Clone, Copy, PartialEq, Eq, Debug)]
+pub enum JobFault {
+    /// Under 16 bytes: its length.
+    Short(u8),
+    /// Its figures are refused.
+    Figures(FigureFault),
+    /// Bytes 6 and 7 are not both zero.
+    Reserved,
+    /// More than 4,608 records, or a length that is not 16 bytes and 13 for each record.
+    Length,
+    /// The record at this place is against its layout.
+    Record(u16),
+    /// The answer table is shorter than the number of records.
+    Table,
+}
+
+/// What a fault of a job tells: its number, its byte place in the job and the number of the figures' refusal inside,
+/// 0 if there is none.
+#[derive(Clone, Copy, PartialEq, Eq, Debug)]
+pub struct FaultTold {
+    pub number: u8,
+    pub place: u16,
+    pub inner: u8,
+}
+
+impl FigureFault {
+    /// The number of the broken row.
+    pub fn number(self) -> u8
+        ensures { λ r. ⌜ r ≡ figure-number self ⌝ }
+    {
+        match self {
+            FigureFault::Cores => 14,
+            FigureFault::Slots => 15,
+            FigureFault::Words => 16,
+            FigureFault::Strip => 17,
+            FigureFault::Allowance => 18,
+        }
+    }
+
+    /// The byte of a job at which the figure stands.
+    pub fn place(self) -> u16
+        ensures { λ r. ⌜ r ≡ figure-place self ⌝ }
+    {
+        match self {
+            FigureFault::Cores => 0,
+            FigureFault::Slots => 1,
+            FigureFault::Words => 2,
+            FigureFault::Strip => 4,
+            FigureFault::Allowance => 8,
+        }
+    }
+}
+
+impl JobFault {
+    /// The fault's number, its place and the number inside.
+    pub fn told(self) -> FaultTold
+        ensures { λ r. ⌜ r ≡ fault-told self ⌝ }
+    {
+        match self {
+            JobFault::Short(length) => FaultTold {
+                number: 19,
+                place: length as u16,
+                inner: 0,
+            },
+            JobFault::Figures(row) => FaultTold {
+                number: 20,
+                place: row.place(),
+                inner: row.number(),
+            },
+            JobFault::Reserved => FaultTold {
+                number: 21,
+                place: 6,
+                inner: 0,
+            },
+            JobFault::Length => FaultTold {
+                number: 22,
+                place: 12,
+                inner: 0,
+            },
+            JobFault::Record(place) => FaultTold {
+                number: 23,
+                place,
+                inner: 0,
+            },
+            JobFault::Table => FaultTold {
+                number: 24,
+                place: 0,
+                inner: 0,
+            },
+        }
+    }
+}
+
+/// A broken row of the figures comes up through the job reader inside the job's fault.
+pub impl From<FigureFault> for JobFault as JobFaultFromFigures {
+    ghost converts = { λ e r. r ≡ Figures e };
+
+    fn from(row: FigureFault) -> JobFault {
+        JobFault::Figures(row)
+    }
+}
