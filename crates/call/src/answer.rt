@@ -1,7 +1,7 @@
 //! What a call answers, and the record of it that a run keeps.
 ghost use mathlib.Core.Path.{_≡_};
 ghost use Rattle.call.specs.Calls.{caller-of, kind-of};
-ghost use Rattle.call.specs.Told.{answer-told, refusal-told};
+ghost use Rattle.call.specs.Told.{told, answer-told, refusal-told};
 use crate::call::Call;
 use crate::call::Kind;
 use crate::call::KindDebug;
@@ -52,15 +52,15 @@ pub struct AnswerRecord {
     pub answer: Answer,
 }
 
-// The record of refused calls: the number alone, but for a race.
-fn plain(refusal: u8) -> Told
-    ensures { λ r. ⌜ r ≡ record { refusal = refusal; small = 0; value = 0; mark = 0 } ⌝ }
+// The four numbers that an answer tells.
+fn tells(refusal: u8, small: u16, value: u32, mark: u32) -> Told
+    ensures { λ r. ⌜ r ≡ told refusal small value mark ⌝ }
 {
     Told {
         refusal,
-        small: 0,
-        value: 0,
-        mark: 0,
+        small,
+        value,
+        mark,
     }
 }
 
@@ -70,30 +70,20 @@ impl Refusal {
         ensures { λ r. ⌜ r ≡ refusal-told self ⌝ }
     {
         match self {
-            Refusal::NoCore => plain(1),
-            Refusal::OutsideBoard => plain(2),
-            Refusal::Waiting => plain(3),
-            Refusal::ReadOnly => plain(4),
-            Refusal::NotHolder => plain(5),
-            Refusal::Race(core, Access::Load) => Told {
-                refusal: 6,
-                small: core as u16,
-                value: 0,
-                mark: 0,
-            },
-            Refusal::Race(core, Access::Store) => Told {
-                refusal: 6,
-                small: core as u16,
-                value: 1,
-                mark: 0,
-            },
-            Refusal::AllowanceSpent => plain(7),
-            Refusal::NoLock => plain(8),
-            Refusal::HoldsLock => plain(9),
-            Refusal::NotHeld => plain(10),
-            Refusal::BadMode => plain(11),
-            Refusal::LockHeld => plain(12),
-            Refusal::Owned => plain(13),
+            Refusal::NoCore => tells(1, 0, 0, 0),
+            Refusal::OutsideBoard => tells(2, 0, 0, 0),
+            Refusal::Waiting => tells(3, 0, 0, 0),
+            Refusal::ReadOnly => tells(4, 0, 0, 0),
+            Refusal::NotHolder => tells(5, 0, 0, 0),
+            Refusal::Race(core, Access::Load) => tells(6, core as u16, 0, 0),
+            Refusal::Race(core, Access::Store) => tells(6, core as u16, 1, 0),
+            Refusal::AllowanceSpent => tells(7, 0, 0, 0),
+            Refusal::NoLock => tells(8, 0, 0, 0),
+            Refusal::HoldsLock => tells(9, 0, 0, 0),
+            Refusal::NotHeld => tells(10, 0, 0, 0),
+            Refusal::BadMode => tells(11, 0, 0, 0),
+            Refusal::LockHeld => tells(12, 0, 0, 0),
+            Refusal::Owned => tells(13, 0, 0, 0),
         }
     }
 }
@@ -104,26 +94,9 @@ impl Answer {
         ensures { λ r. ⌜ r ≡ answer-told self ⌝ }
     {
         match self {
-            Answer::Loaded(word, source) => {
-                Told {
-                    refusal: 0,
-                    small: source as u16,
-                    value: word.value,
-                    mark: word.mark.number(),
-                }
-            }
-            Answer::Stored(answer, mark) => Told {
-                refusal: 0,
-                small: answer as u16,
-                value: 0,
-                mark: mark.number(),
-            },
-            Answer::Done(small) => Told {
-                refusal: 0,
-                small,
-                value: 0,
-                mark: 0,
-            },
+            Answer::Loaded(word, source) => tells(0, source as u16, word.value, word.mark.number()),
+            Answer::Stored(answer, mark) => tells(0, answer as u16, 0, mark.number()),
+            Answer::Done(small) => tells(0, small, 0, 0),
             Answer::Refused(refusal) => refusal.told(),
         }
     }

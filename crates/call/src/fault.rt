@@ -116,7 +116,7 @@ impl JobFault {
 pub impl From<FigureFault> for JobFault as JobFaultFromFigures {
     ghost converts = { λ e r. r ≡ Figures e };
 
-    fn from(row: FigureFault) -> JobFault {
-        JobFault::Figures(row)
+    fn from(broken: FigureFault) -> JobFault {
+        JobFault::Figures(broken)
     }
 }

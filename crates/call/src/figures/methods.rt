@@ -48,35 +48,40 @@ impl Figures {
     pub fn cores(&self) -> u8
         ensures { λ r. ⌜ r ≡ figures (now (self .entry)) .cores ⌝ }
     {
-        self.cores
+        let cores = self.cores;
+        cores
     }
 
     /// How many slots each core's cache has.
     pub fn slots(&self) -> u8
         ensures { λ r. ⌜ r ≡ figures (now (self .entry)) .slots ⌝ }
     {
-        self.slots
+        let slots = self.slots;
+        slots
     }
 
     /// How many words of the page the board uses at the most.
     pub fn words(&self) -> u16
         ensures { λ r. ⌜ r ≡ figures (now (self .entry)) .words ⌝ }
     {
-        self.words
+        let words = self.words;
+        words
     }
 
     /// How many words make a strip.
     pub fn strip(&self) -> u16
         ensures { λ r. ⌜ r ≡ figures (now (self .entry)) .strip ⌝ }
     {
-        self.strip
+        let strip = self.strip;
+        strip
     }
 
     /// How many stores each core may make.
     pub fn allowance(&self) -> u32
         ensures { λ r. ⌜ r ≡ figures (now (self .entry)) .allowance ⌝ }
     {
-        self.allowance
+        let allowance = self.allowance;
+        allowance
     }
 
     /// The strip of a word: the only place where it is computed.
@@ -91,5 +96,44 @@ impl Figures {
         ensures { λ r. ⌜ r ≡ slot-of (figures (now (self .entry))) word ⌝ }
     {
         (word % self.slots as u16) as u8
+    }
+}
+
+#[cfg(test)]
+mod tests {
+    use super::*;
+    use crate::fault::FigureFaultPartialEq;
+    use std::test::*;
+
+    // Sixteen strips of four words hold 64 words and not 65.
+    #[test]
+    fn sixteen_strips() -> Result<(), Fail> {
+        check(Figures::check(2, 4, 64, 4, 10).is_ok())?;
+        check(fault_of(2, 4, 65, 4, 10) == Some(FigureFault::Strip))
+    }
+
+    // The first broken row is told, at both ends of each range.
+    #[test]
+    fn first_broken_row() -> Result<(), Fail> {
+        check(fault_of(0, 0, 0, 0, 0) == Some(FigureFault::Cores))?;
+        check(fault_of(9, 65, 1, 1, 1) == Some(FigureFault::Cores))?;
+        check(fault_of(8, 65, 0, 1, 1) == Some(FigureFault::Slots))?;
+        check(fault_of(8, 64, 4_097, 0, 1) == Some(FigureFault::Words))?;
+        check(fault_of(8, 64, 4_096, 4_097, 0) == Some(FigureFault::Strip))?;
+        check(fault_of(8, 64, 4_096, 256, 1_000_001) == Some(FigureFault::Allowance))?;
+        check(Figures::check(8, 64, 4_096, 4_096, 1_000_000).is_ok())
+    }
+
+    fn fault_of(
+        cores: u8,
+        slots: u8,
+        words: u16,
+        strip: u16,
+        allowance: u32,
+    ) -> Option<FigureFault> {
+        match Figures::check(cores, slots, words, strip, allowance) {
+            Ok(_) => None,
+            Err(fault) => Some(fault),
+        }
     }
 }

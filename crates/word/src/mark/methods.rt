@@ -56,7 +56,8 @@ impl Mark {
         ensures value { λ r. ⌜ r ≡ number self ⌝ }
         ensures lawful { λ r. ⌜ Lawful r ⌝ }
     {
-        self.number
+        let number = self.number;
+        number
     }
 
     /// The core whose store the mark tells; none of a blank mark.
@@ -74,5 +75,34 @@ impl Mark {
         ensures { λ r. ⌜ r ≡ count-of (number self) ⌝ }
     {
         self.number % 1_048_576
+    }
+}
+
+#[cfg(test)]
+mod tests {
+    use super::*;
+    use std::test::*;
+
+    // The largest mark, the number above it, and a core's mark with count 0.
+    #[test]
+    fn lawful_numbers() -> Result<(), Fail> {
+        check(Mark::from_number(8_340_032).is_some())?;
+        check(Mark::from_number(8_340_033).is_none())?;
+        check(Mark::from_number(1_048_576).is_none())?;
+        check(Mark::from_number(0).is_some())
+    }
+
+    #[test]
+    fn parts_of_a_mark() -> Result<(), Fail> {
+        let Some(mark) = Mark::of_store(7, 1_000_000) else {
+            return Err(Fail::new("no mark"));
+        };
+        check(mark.number() == 8_340_032)?;
+        check(mark.core() == Some(7))?;
+        check(mark.count() == 1_000_000)?;
+        check(Mark::blank().core() == None)?;
+        check(Mark::of_store(8, 1).is_none())?;
+        check(Mark::of_store(0, 0).is_none())?;
+        check(Mark::of_store(0, 1_000_001).is_none())
     }
 }
