@@ -1,0 +1,2 @@
+-- Lemmas on signatures.
+pub mod Tables

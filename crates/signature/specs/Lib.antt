@@ -1,0 +1,4 @@
+-- The definitions that the contracts of signatures cite.
+pub mod Sentences
+pub mod Rows
+pub mod Tables
