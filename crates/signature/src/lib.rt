@@ -2,3 +2,8 @@
 //! and the Bloom signature.
 
 mod table;
+pub mod exact;
+pub mod interface;
+
+pub use exact::Exact;
+pub use interface::Signature;

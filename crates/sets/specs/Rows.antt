@@ -3,7 +3,7 @@
 use mathlib.Core.Bool.{Bool, not, cond, _&&_, _||_}
 use Prim.Native.Nat.{ℕ, _+_, _*_, _/_, _%_}
 use lib.Dec.{eqb, ltb}
-use Rattle.signature.specs.Sentences.{Sets}
+use Rattle.sets.specs.Sentences.{Sets}
 
 -- the rows with one member more in one row
 abbrev pub added : Sets → ℕ → ℕ → Sets

@@ -6,7 +6,7 @@ use Prim.Native.Nat.{ℕ, zero, suc, _+_, _*_, _/_, _%_, _^_}
 use lib.Bits.{bitOr}
 use lib.Dec.{eqb, ltb}
 use lib.ListN.{getD, set}
-use Rattle.signature.specs.Sentences.{Sets}
+use Rattle.sets.specs.Sentences.{Sets}
 
 -- whether bit i of a number is set, the lowest being bit 0
 abbrev pub bit : ℕ → ℕ → Bool

@@ -1,0 +1,3 @@
+-- Lemmas on bits, on tables of words and on the rows that a table means.
+pub mod Bits
+pub mod Tables
