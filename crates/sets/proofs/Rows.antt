@@ -9,9 +9,9 @@ use native.Mathlib.Nat.{add-mul, zero-div}
 use native.Mathlib.Omega.{arith}
 use lib.Bits.{bitOr}
 use lib.Dec.{eqb, ltb}
-use lib.ListN.{length, getD, set}
+use lib.ListN.{length, getD, set, replicate}
 use Rattle.std.proofs.shelf.Bits.{div-mul-add, mod-mul-add, mul-add-lt, div-below, div-add-mod', mul-le}
-use Rattle.std.proofs.shelf.Lists.{getD-set-same, getD-set-other}
+use Rattle.std.proofs.shelf.Lists.{getD-set-same, getD-set-other, getD-replicate, getD-past, length-replicate}
 use Rattle.std.proofs.shelf.Tests.{cases-eq, cases-lt, eq-eqb, ne-eqb, eqb-true, lt-ltb, le-ltb}
 use Rattle.sets.specs.Rows.{added, joined, emptied}
 use Rattle.sets.specs.Tables.{bit, row-bit, rows-of, with-bit, with-joined, with-emptied}
@@ -32,8 +32,12 @@ same-place width c d p q hp hq e =
     (sym (div-mul-add d width q hq) ∙ ap (λ n. n / width) e ∙ div-mul-add c width p hp,
      sym (mod-mul-add d width q hq) ∙ ap (λ n. n % width) e ∙ mod-mul-add c width p hp)
 
+-- a core's row lies in the table
+pub row-fits : (width c size : ℕ) → c < 8 → size ≡ 8 * width → c * width + width ≤ size
+row-fits width c size hc e = omega (arith, mul-le (c + 1) width 8 width (omega arith) (omega arith), add-mul c 1 width)
+
 -- the word of a row's bit lies in the table
-in-table : (width c x size : ℕ) → c < 8 → x < width * 64 → size ≡ 8 * width → c * width + x / 64 < size
+pub in-table : (width c x size : ℕ) → c < 8 → x < width * 64 → size ≡ 8 * width → c * width + x / 64 < size
 in-table width c x size hc hx e =
     let part = div-below x 64 width (omega arith) hx in omega (arith, mul-add-lt c width (x / 64) 8 hc part)
 
@@ -80,7 +84,7 @@ row-joined width table c e d y size hc hy = ⊎-elim same other (cases-eq d c)
     same : d ≡ c → row-bit J (d * width) y ≡ (row-bit table (d * width) y || (eqb d c && row-bit table (e * width) y))
     same q =
         let M : ℕ → Type 0 = λ n. row-bit J (n * width) y ≡ (row-bit table (n * width) y || (eqb n c && row-bit table (e * width) y)) in
-        let fits : c * width + width ≤ length table = omega (arith, mul-le (c + 1) width 8 width (omega arith) (omega arith), add-mul c 1 width) in
+        let fits : c * width + width ≤ length table = row-fits width c (length table) hc size in
         let unread : (k i : ℕ) → i < k → k < width → e * width + k ≡ c * width + i → ⊥ =
             λ k i l h s. let parts = same-place width c e i k (omega arith) h s in omega (arith, parts .1) in
         subst M (sym q)
@@ -105,7 +109,7 @@ row-emptied width table c d y size hc hy = ⊎-elim same other (cases-eq d c)
     same : d ≡ c → row-bit E (d * width) y ≡ (not (eqb d c) && row-bit table (d * width) y)
     same q =
         let M : ℕ → Type 0 = λ n. row-bit E (n * width) y ≡ (not (eqb n c) && row-bit table (n * width) y) in
-        let fits : c * width + width ≤ length table = omega (arith, mul-le (c + 1) width 8 width (omega arith) (omega arith), add-mul c 1 width) in
+        let fits : c * width + width ≤ length table = row-fits width c (length table) hc size in
         subst M (sym q)
         (ap (λ n. bit n (y % 64)) (emptied-at table (c * width) width (y / 64) fits part) ∙ ap (λ n. eqb (n % 2) 1) (zero-div (2 ^ (y % 64))) ∙
          ap (λ b. not b && row-bit table (c * width) y) (sym (eq-eqb c c refl)))
@@ -189,3 +193,14 @@ rows-emptied width table c d y size hc = by-range width d y _ inside past-core p
     past-end : d < 8 → width * 64 ≤ y → rows-of width T d y ≡ emptied (rows-of width table) c d y
     past-end hd h =
         rows-past-end width T d y h ∙ sym (ap (λ b. not (eqb d c) && b) (rows-past-end width table d y h) ∙ and-false (not (eqb d c)))
+
+-- a table of zeros means empty rows
+pub rows-empty : (width n d x : ℕ) → rows-of width (replicate n 0) d x ≡ false
+unfolding rows-of
+rows-empty width n d x =
+    let word : getD (replicate n 0) (d * width + x / 64) 0 ≡ 0 =
+        ⊎-elim (getD-replicate n (d * width + x / 64) 0 0)
+        (λ h. getD-past (replicate n 0) (d * width + x / 64) 0 (rw length-replicate h)) (cases-lt (d * width + x / 64) n) in
+    let clear : row-bit (replicate n 0) (d * width) x ≡ false =
+        ap (λ m. bit m (x % 64)) word ∙ ap (λ m. eqb (m % 2) 1) (zero-div (2 ^ (x % 64))) in
+    ap (λ b. ltb d 8 && (ltb x (width * 64) && b)) clear ∙ ap (λ b. ltb d 8 && b) (and-false (ltb x (width * 64))) ∙ and-false (ltb d 8)

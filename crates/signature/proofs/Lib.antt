@@ -1,2 +1,2 @@
 -- Lemmas on signatures.
-pub mod Tables
+pub mod Same

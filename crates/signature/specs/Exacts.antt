@@ -1,16 +1,50 @@
--- The exact signature: what it holds, and what it is after each operation. Assumes nothing.
-use Rattle.std.proofs.shelf.Tests.{ltb-true, cond-both}
-use mathlib.Core.Bool.{Bool, cond, _&&_}
-use mathlib.Core.Path.{_≡_, _∙_}
-use Prim.Native.Nat.{ℕ, _*_}
-use lib.Dec.{ltb}
-use Rattle.signature.specs.Sentences.{Sets}
-use Rattle.signature.specs.Tables.{rows-of}
+-- The exact signature: what its sets hold, and what it is after each operation; the facts beside them show that it keeps the
+-- sentences of every signature. Assumes nothing.
+use mathlib.Core.List.{List}
+use mathlib.Core.Path.{_∙_}
+use Prim.Native.Nat.{ℕ}
+use Rattle.sets.specs.Sentences.{Sets, Put, Taken-in, Cleared, Bounded}
+use Rattle.sets.specs.Tables.{rows-of, exact-put, table-taken-in, table-cleared}
+use Rattle.sets.proofs.Ranges.{exact-put-rows, taken-in-rows, cleared-rows, length-exact-put, length-taken-in, length-cleared}
+use Rattle.sets.proofs.Sentences.{words-puts, takes-in, clears, rows-bounded}
 use Rattle.signature.specs.declared.exact.Exact.{Exact}
 
--- whether a core's set holds a word: its bit is set
+-- the table of its bits, 64 words of 64 bits a core
+abbrev pub table : Exact → List ℕ
+table s = s .words
+
+-- whether a core's set holds a word: the bit of that word in the core's row is set
 abbrev pub held : Exact → Sets
 held s = rows-of 64 (s .words)
 
-pub foo : (a b : ℕ) → ltb a b ≡ cond (ltb a b) (ltb a b) (ltb a b)
-foo a b = grind needs
+-- after a put: the word's bit is set
+unfoldable pub put : Exact → ℕ → ℕ → Exact
+put s core word = record { words = exact-put (s .words) core word; full = length-exact-put (s .words) core word ∙ s .full }
+
+-- after a take in: the core's row is joined with the other core's
+unfoldable pub taken-in : Exact → ℕ → ℕ → Exact
+taken-in s core other =
+    record { words = table-taken-in 64 (s .words) core other; full = length-taken-in 64 (s .words) core other ∙ s .full }
+
+-- after a clear: the core's row is empty
+unfoldable pub cleared : Exact → ℕ → Exact
+cleared s core = record { words = table-cleared 64 (s .words) core; full = length-cleared 64 (s .words) core ∙ s .full }
+
+-- outside the ranges nothing is held
+pub bounded : (s : Exact) → Bounded (held s)
+bounded s = rows-bounded (s .words)
+
+-- put keeps its sentences
+pub puts : (s : Exact) (core word : ℕ) → Put (held s) (held (put s core word)) core word
+unfolding put
+puts s core word = words-puts (held s) (held (put s core word)) core word (exact-put-rows (s .words) core word (s .full))
+
+-- take in keeps its sentences
+pub takes : (s : Exact) (core other : ℕ) → Taken-in (held s) (held (taken-in s core other)) core other
+unfolding taken-in
+takes s core other = takes-in (held s) (held (taken-in s core other)) core other (taken-in-rows 64 (s .words) core other (s .full))
+
+-- clear keeps its sentences
+pub clears-it : (s : Exact) (core : ℕ) → Cleared (held s) (held (cleared s core)) core
+unfolding cleared
+clears-it s core = clears (held s) (held (cleared s core)) core (cleared-rows 64 (s .words) core (s .full))

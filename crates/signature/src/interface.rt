@@ -2,7 +2,7 @@
 ghost use Prim.Native.Nat.{ℕ};
 ghost use mathlib.Core.Bool.{Bool};
 ghost use mathlib.Core.Path.{_≡_};
-ghost use Rattle.signature.specs.Sentences.{Put, Taken-in, Cleared, Bounded};
+ghost use Rattle.sets.specs.Sentences.{Put, Taken-in, Cleared, Bounded};
 
 /// For each core 0 to 7 a set of words 0 to 4,095, in which more words may be than were put: a false alarm costs a fetch, a
 /// lost word would let a core read an old copy. Code that is generic in a signature has what its methods leave by equality,

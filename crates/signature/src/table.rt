@@ -2,10 +2,41 @@
 ghost use Prim.Native.Nat.{ℕ, _+_, _*_, _/_, _^_, _<_, _≤_};
 ghost use lib.ListN.{length};
 ghost use mathlib.Core.Path.{_≡_};
-ghost use Rattle.signature.specs.Tables.{row-bit, with-bit, with-joined, with-emptied};
+ghost use Rattle.sets.specs.Tables.{row-bit, rows-of, with-bit, with-joined, with-emptied, table-taken-in, table-cleared};
 
-/// Whether bit `x` is set of the row that starts at the word `start`.
-pub(crate) fn has_bit(table: &[u64], start: usize, x: usize) -> bool
+/// Whether a core's row has bit `x`, where a row has `width` words; no above core 7 and past the row's end.
+pub(crate) fn row_has(table: &[u64], width: usize, core: u8, x: usize) -> bool
+    requires { ⌜ length (now table) ≡ 8 * width ⌝ ∗ ⌜ width ≤ 64 ⌝ }
+    ensures { λ r. ⌜ r ≡ rows-of width (now (table .entry)) core x ⌝ }
+{
+    if core >= 8 || x >= width * 64 {
+        return false;
+    }
+    has_bit(table, core as usize * width, x)
+}
+
+/// Joins a core's row with another core's. Above core 7 the table stays.
+pub(crate) fn take_in_row(table: &mut [u64], width: usize, core: u8, other: u8)
+    requires { ⌜ length (now table) ≡ 8 * width ⌝ ∗ ⌜ width ≤ 64 ⌝ }
+    ensures { λ _. ⌜ now (table .exit) ≡ table-taken-in width (now (table .entry)) core other ⌝ }
+{
+    if core < 8 && other < 8 {
+        join_words(table, core as usize * width, other as usize * width, width);
+    }
+}
+
+/// Empties a core's row. Above core 7 the table stays.
+pub(crate) fn clear_row(table: &mut [u64], width: usize, core: u8)
+    requires { ⌜ length (now table) ≡ 8 * width ⌝ ∗ ⌜ width ≤ 64 ⌝ }
+    ensures { λ _. ⌜ now (table .exit) ≡ table-cleared width (now (table .entry)) core ⌝ }
+{
+    if core < 8 {
+        empty_words(table, core as usize * width, width);
+    }
+}
+
+// Whether bit `x` is set of the row that starts at the word `start`.
+fn has_bit(table: &[u64], start: usize, x: usize) -> bool
     requires { ⌜ start + x / 64 < length (now table) ⌝ }
     ensures { λ r. ⌜ r ≡ row-bit (now (table .entry)) start x ⌝ }
 {
@@ -20,8 +51,8 @@ pub(crate) fn set_bit(table: &mut [u64], start: usize, x: usize)
     table[start + x / 64] |= 1 << (x % 64);
 }
 
-/// Joins each of `count` words from place `to` on with the word as far from place `from`.
-pub(crate) fn join_words(table: &mut [u64], to: usize, from: usize, count: usize)
+// Joins each of `count` words from place `to` on with the word as far from place `from`.
+fn join_words(table: &mut [u64], to: usize, from: usize, count: usize)
     requires { ⌜ to + count ≤ length (now table) ⌝ ∗ ⌜ from + count ≤ length (now table) ⌝ }
     ensures { λ _. ⌜ now (table .exit) ≡ with-joined (now (table .entry)) to from count ⌝ }
 {
@@ -31,8 +62,8 @@ pub(crate) fn join_words(table: &mut [u64], to: usize, from: usize, count: usize
     }
 }
 
-/// Empties `count` words from place `start` on.
-pub(crate) fn empty_words(table: &mut [u64], start: usize, count: usize)
+// Empties `count` words from place `start` on.
+fn empty_words(table: &mut [u64], start: usize, count: usize)
     requires { ⌜ start + count ≤ length (now table) ⌝ }
     ensures { λ _. ⌜ now (table .exit) ≡ with-emptied (now (table .entry)) start count ⌝ }
 {

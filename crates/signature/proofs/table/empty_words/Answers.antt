@@ -1,5 +1,5 @@
 use mathlib.Core.Path.{sym}
-use Rattle.signature.proofs.Tables.{emptied-none, emptied-more}
+use Rattle.sets.proofs.Tables.{emptied-none, emptied-more}
 use Rattle.signature.proofs.table.empty_words.Needs as need
 
 pub loop-i-holds : need.loop-i-holds

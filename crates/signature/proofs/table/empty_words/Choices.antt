@@ -1,5 +1,5 @@
 use mathlib.Core.Path.{_≡_}
-use Rattle.signature.specs.Tables.{with-emptied}
+use Rattle.sets.specs.Tables.{with-emptied}
 use Rattle.signature.proofs.table.empty_words.Given as given
 
 abbrev pub Inv-loop-i : given.InvT-loop-i

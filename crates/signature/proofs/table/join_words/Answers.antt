@@ -1,5 +1,5 @@
 use mathlib.Core.Path.{sym}
-use Rattle.signature.proofs.Tables.{joined-none, joined-more}
+use Rattle.sets.proofs.Tables.{joined-none, joined-more}
 use Rattle.signature.proofs.table.join_words.Needs as need
 
 pub loop-i-holds : need.loop-i-holds

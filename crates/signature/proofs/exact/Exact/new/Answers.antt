@@ -1,0 +1,6 @@
+use mathlib.Core.Path.{refl}
+use Rattle.sets.proofs.Rows.{rows-empty}
+use Rattle.signature.proofs.exact.Exact.new.Needs as need
+
+pub returns : need.returns
+returns c = record { value = refl; empty = λ d v. rows-empty 64 512 d v }
