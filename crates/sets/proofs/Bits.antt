@@ -24,8 +24,10 @@ or-digits p q hp hq = ⊎-elim (λ e. subst P (sym e) (zeros q hq)) (λ e. subst
   where
     P : ℕ → Type 0
     P n = eqb (bitOr n q) 1 ≡ (eqb n 1 || eqb q 1)
+
     zeros : (m : ℕ) → m < 2 → eqb (bitOr 0 m) 1 ≡ eqb m 1
     zeros m h = ap (λ n. eqb n 1) (or-zero-l m)
+
     ones : (m : ℕ) → m < 2 → eqb (bitOr 1 m) 1 ≡ true
     ones zero h = refl
     ones (suc zero) h = refl
@@ -45,12 +47,14 @@ bit-power j i = ⊎-elim same (⊎-elim below above) (cases-order i j)
     same e =
         let P : ℕ → Type 0 = λ n. bit (2 ^ j) n ≡ eqb n j in
         subst P (sym e) (ap (λ n. eqb (n % 2) 1) (div-self (pow-pos j)) ∙ sym (eq-eqb j j refl))
+
     below : i < j → bit (2 ^ j) i ≡ eqb i j
     below h =
         let split : j ≡ suc (j - i - 1) + i = omega arith in
         let whole : 2 ^ j ≡ 2 ^ suc (j - i - 1) * 2 ^ i = ap (λ n. 2 ^ n) split ∙ pow-add 2 (suc (j - i - 1)) i in
         let up : 2 ^ j / 2 ^ i ≡ 2 ^ (j - i - 1) * 2 =
-            ap (λ n. n / 2 ^ i) whole ∙ shl-shr (2 ^ suc (j - i - 1)) i ∙ pow-suc 2 (j - i - 1) in
+        ap (λ n. n / 2 ^ i) whole ∙ shl-shr (2 ^ suc (j - i - 1)) i ∙ pow-suc 2 (j - i - 1) in
         ap (λ n. eqb (n % 2) 1) up ∙ ap (λ n. eqb n 1) (mul-mod-left (2 ^ (j - i - 1)) 2) ∙ sym (ne-eqb i j (λ e. omega arith))
+
     above : j < i → bit (2 ^ j) i ≡ eqb i j
     above h = ap (λ n. eqb (n % 2) 1) (div-eq-of-lt (pow-below j i h)) ∙ sym (ne-eqb i j (λ e. omega arith))

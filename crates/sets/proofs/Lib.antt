@@ -4,3 +4,5 @@ pub mod Tables
 pub mod Rows
 pub mod Ranges
 pub mod Sentences
+pub mod Fills
+pub mod Least

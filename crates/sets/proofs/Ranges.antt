@@ -44,6 +44,7 @@ bloom-put-rows table c w size d x = go (in-range c w) refl
   where
     once : List ℕ
     once = with-bit table (c * 4) (first-bit w)
+
     go : (b : Bool) → in-range c w ≡ b →
         rows-of 4 (cond b (with-bit once (c * 4) (second-bit w)) table) d x ≡
         (cond b (added (added (rows-of 4 table) c (first-bit w)) c (second-bit w)) (rows-of 4 table)) d x

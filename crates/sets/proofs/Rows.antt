@@ -28,9 +28,10 @@ and-false false = refl
 
 -- two words of rows at one place are of one row, and as far from its start
 same-place : (width c d p q : ℕ) → p < width → q < width → d * width + q ≡ c * width + p → (d ≡ c) × (q ≡ p)
-same-place width c d p q hp hq e =
-    (sym (div-mul-add d width q hq) ∙ ap (λ n. n / width) e ∙ div-mul-add c width p hp,
-     sym (mod-mul-add d width q hq) ∙ ap (λ n. n % width) e ∙ mod-mul-add c width p hp)
+same-place width c d p q hp hq e = (
+  sym (div-mul-add d width q hq) ∙ ap (λ n. n / width) e ∙ div-mul-add c width p hp,
+  sym (mod-mul-add d width q hq) ∙ ap (λ n. n % width) e ∙ mod-mul-add c width p hp,
+)
 
 -- a core's row lies in the table
 pub row-fits : (width c size : ℕ) → c < 8 → size ≡ 8 * width → c * width + width ≤ size
@@ -55,10 +56,13 @@ row-with-bit width table c x d y size hc hx hy = ⊎-elim shared apart (cases-eq
   where
     P : ℕ
     P = c * width + x / 64
+
     Q : ℕ
     Q = d * width + y / 64
+
     V : ℕ
     V = bitOr (getD table P 0) (2 ^ (x % 64))
+
     shared : Q ≡ P → bit (getD (set table P V) Q 0) (y % 64) ≡ (bit (getD table Q 0) (y % 64) || (eqb d c && eqb y x))
     shared e =
         let parts = same-place width c d (x / 64) (y / 64) (div-below x 64 width (omega arith) hx) (div-below y 64 width (omega arith) hy) e in
@@ -66,8 +70,9 @@ row-with-bit width table c x d y size hc hx hy = ⊎-elim shared apart (cases-eq
         let M : ℕ → Type 0 = λ n. bit (getD (set table P V) n 0) (y % 64) ≡ (bit (getD table n 0) (y % 64) || (eqb d c && eqb y x)) in
         subst M (sym e)
         (ap (λ n. bit n (y % 64)) (getD-set-same table P V 0 within) ∙ bit-or (getD table P 0) (2 ^ (x % 64)) (y % 64) ∙
-         ap (λ b. bit (getD table P 0) (y % 64) || b)
-         (bit-power (x % 64) (y % 64) ∙ same-bit x y (parts .1) ∙ ap (λ b. b && eqb y x) (sym (eq-eqb d c (parts .0)))))
+        ap (λ b. bit (getD table P 0) (y % 64) || b)
+        (bit-power (x % 64) (y % 64) ∙ same-bit x y (parts .1) ∙ ap (λ b. b && eqb y x) (sym (eq-eqb d c (parts .0)))))
+
     apart : (Q ≡ P → ⊥) → bit (getD (set table P V) Q 0) (y % 64) ≡ (bit (getD table Q 0) (y % 64) || (eqb d c && eqb y x))
     apart ne =
         ap (λ n. bit n (y % 64)) (getD-set-other table P Q V 0 ne) ∙ grind (arith, eqb-true)
@@ -79,18 +84,21 @@ row-joined width table c e d y size hc hy = ⊎-elim same other (cases-eq d c)
   where
     part : y / 64 < width
     part = div-below y 64 width (omega arith) hy
+
     J : List ℕ
     J = with-joined table (c * width) (e * width) width
+
     same : d ≡ c → row-bit J (d * width) y ≡ (row-bit table (d * width) y || (eqb d c && row-bit table (e * width) y))
     same q =
         let M : ℕ → Type 0 = λ n. row-bit J (n * width) y ≡ (row-bit table (n * width) y || (eqb n c && row-bit table (e * width) y)) in
         let fits : c * width + width ≤ length table = row-fits width c (length table) hc size in
         let unread : (k i : ℕ) → i < k → k < width → e * width + k ≡ c * width + i → ⊥ =
-            λ k i l h s. let parts = same-place width c e i k (omega arith) h s in omega (arith, parts .1) in
+        λ k i l h s. let parts = same-place width c e i k (omega arith) h s in omega (arith, parts .1) in
         subst M (sym q)
         (ap (λ n. bit n (y % 64)) (joined-at table (c * width) (e * width) width (y / 64) fits part unread) ∙
-         bit-or (getD table (c * width + y / 64) 0) (getD table (e * width + y / 64) 0) (y % 64) ∙
-         ap (λ b. row-bit table (c * width) y || (b && row-bit table (e * width) y)) (sym (eq-eqb c c refl)))
+        bit-or (getD table (c * width + y / 64) 0) (getD table (e * width + y / 64) 0) (y % 64) ∙
+        ap (λ b. row-bit table (c * width) y || (b && row-bit table (e * width) y)) (sym (eq-eqb c c refl)))
+
     other : (d ≡ c → ⊥) → row-bit J (d * width) y ≡ (row-bit table (d * width) y || (eqb d c && row-bit table (e * width) y))
     other ne =
         ap (λ n. bit n (y % 64))
@@ -104,15 +112,18 @@ row-emptied width table c d y size hc hy = ⊎-elim same other (cases-eq d c)
   where
     part : y / 64 < width
     part = div-below y 64 width (omega arith) hy
+
     E : List ℕ
     E = with-emptied table (c * width) width
+
     same : d ≡ c → row-bit E (d * width) y ≡ (not (eqb d c) && row-bit table (d * width) y)
     same q =
         let M : ℕ → Type 0 = λ n. row-bit E (n * width) y ≡ (not (eqb n c) && row-bit table (n * width) y) in
         let fits : c * width + width ≤ length table = row-fits width c (length table) hc size in
         subst M (sym q)
         (ap (λ n. bit n (y % 64)) (emptied-at table (c * width) width (y / 64) fits part) ∙ ap (λ n. eqb (n % 2) 1) (zero-div (2 ^ (y % 64))) ∙
-         ap (λ b. not b && row-bit table (c * width) y) (sym (eq-eqb c c refl)))
+        ap (λ b. not b && row-bit table (c * width) y) (sym (eq-eqb c c refl)))
+
     other : (d ≡ c → ⊥) → row-bit E (d * width) y ≡ (not (eqb d c) && row-bit table (d * width) y)
     other ne =
         ap (λ n. bit n (y % 64))
@@ -144,13 +155,16 @@ rows-with-bit width table c x d y size hc hx = by-range width d y _ inside past-
   where
     T : List ℕ
     T = with-bit table (c * width) x
+
     inside : d < 8 → y < width * 64 → rows-of width T d y ≡ added (rows-of width table) c x d y
     inside hd hy =
         rows-in width T d y hd hy ∙ row-with-bit width table c x d y size hc hx hy ∙
         ap (λ b. b || (eqb d c && eqb y x)) (sym (rows-in width table d y hd hy))
+
     past-core : 8 ≤ d → rows-of width T d y ≡ added (rows-of width table) c x d y
     past-core h =
         rows-past-core width T d y h ∙ sym (ap (λ b. b || (eqb d c && eqb y x)) (rows-past-core width table d y h) ∙ ap (λ b. b && eqb y x) (ne-eqb d c (λ e. omega arith)))
+
     past-end : d < 8 → width * 64 ≤ y → rows-of width T d y ≡ added (rows-of width table) c x d y
     past-end hd h =
         rows-past-end width T d y h ∙
@@ -163,14 +177,17 @@ rows-joined width table c e d y size hc he = by-range width d y _ inside past-co
   where
     T : List ℕ
     T = with-joined table (c * width) (e * width) width
+
     inside : d < 8 → y < width * 64 → rows-of width T d y ≡ joined (rows-of width table) c e d y
     inside hd hy =
         rows-in width T d y hd hy ∙ row-joined width table c e d y size hc hy ∙
         sym (λ i. rows-in width table d y hd hy i || (eqb d c && rows-in width table e y he hy i))
+
     past-core : 8 ≤ d → rows-of width T d y ≡ joined (rows-of width table) c e d y
     past-core h =
         rows-past-core width T d y h ∙
         sym (λ i. rows-past-core width table d y h i || (ne-eqb d c (λ q. omega arith) i && rows-of width table e y))
+
     past-end : d < 8 → width * 64 ≤ y → rows-of width T d y ≡ joined (rows-of width table) c e d y
     past-end hd h =
         rows-past-end width T d y h ∙
@@ -183,13 +200,16 @@ rows-emptied width table c d y size hc = by-range width d y _ inside past-core p
   where
     T : List ℕ
     T = with-emptied table (c * width) width
+
     inside : d < 8 → y < width * 64 → rows-of width T d y ≡ emptied (rows-of width table) c d y
     inside hd hy =
         rows-in width T d y hd hy ∙ row-emptied width table c d y size hc hy ∙
         ap (λ b. not (eqb d c) && b) (sym (rows-in width table d y hd hy))
+
     past-core : 8 ≤ d → rows-of width T d y ≡ emptied (rows-of width table) c d y
     past-core h =
         rows-past-core width T d y h ∙ sym (ap (λ b. not (eqb d c) && b) (rows-past-core width table d y h) ∙ and-false (not (eqb d c)))
+
     past-end : d < 8 → width * 64 ≤ y → rows-of width T d y ≡ emptied (rows-of width table) c d y
     past-end hd h =
         rows-past-end width T d y h ∙ sym (ap (λ b. not (eqb d c) && b) (rows-past-end width table d y h) ∙ and-false (not (eqb d c)))
@@ -199,8 +219,8 @@ pub rows-empty : (width n d x : ℕ) → rows-of width (replicate n 0) d x ≡ f
 unfolding rows-of
 rows-empty width n d x =
     let word : getD (replicate n 0) (d * width + x / 64) 0 ≡ 0 =
-        ⊎-elim (getD-replicate n (d * width + x / 64) 0 0)
-        (λ h. getD-past (replicate n 0) (d * width + x / 64) 0 (rw length-replicate h)) (cases-lt (d * width + x / 64) n) in
+    ⊎-elim (getD-replicate n (d * width + x / 64) 0 0)
+    (λ h. getD-past (replicate n 0) (d * width + x / 64) 0 (rw length-replicate h)) (cases-lt (d * width + x / 64) n) in
     let clear : row-bit (replicate n 0) (d * width) x ≡ false =
-        ap (λ m. bit m (x % 64)) word ∙ ap (λ m. eqb (m % 2) 1) (zero-div (2 ^ (x % 64))) in
+    ap (λ m. bit m (x % 64)) word ∙ ap (λ m. eqb (m % 2) 1) (zero-div (2 ^ (x % 64))) in
     ap (λ b. ltb d 8 && (ltb x (width * 64) && b)) clear ∙ ap (λ b. ltb d 8 && b) (and-false (ltb x (width * 64))) ∙ and-false (ltb d 8)

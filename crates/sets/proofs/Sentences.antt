@@ -19,10 +19,10 @@ other-same true t d c ne = refl
 other-same false t d c ne = ap (λ s. s && t) (ne-eqb d c ne)
 
 -- at a chosen test: what holds of one way holds of the chosen
-chosen-true : (b : Bool) (f g : Sets) (d v : ℕ) → b ≡ true → (cond b f g) d v ≡ f d v
+pub chosen-true : (b : Bool) (f g : Sets) (d v : ℕ) → b ≡ true → (cond b f g) d v ≡ f d v
 chosen-true b f g d v e = ap (λ (t : Bool). (cond t f g) d v) e
 
-chosen-false : (b : Bool) (f g : Sets) (d v : ℕ) → b ≡ false → (cond b f g) d v ≡ g d v
+pub chosen-false : (b : Bool) (f g : Sets) (d v : ℕ) → b ≡ false → (cond b f g) d v ≡ g d v
 chosen-false b f g d v e = ap (λ (t : Bool). (cond t f g) d v) e
 
 -- take in: rows that are joined in the ranges keep its sentences
@@ -32,21 +32,24 @@ takes-in g g′ c e is = ⊎-elim inside outside (below-cases c 8 e 8)
     inside : (c < 8) × (e < 8) → Taken-in g g′ c e
     inside p =
         let at : (d v : ℕ) → g′ d v ≡ joined g c e d v =
-            λ d v. is d v ∙ chosen-true (ltb c 8 && ltb e 8) (joined g c e) g d v (below-true c 8 e 8 p) in
+        λ d v. is d v ∙ chosen-true (ltb c 8 && ltb e 8) (joined g c e) g d v (below-true c 8 e 8 p) in
         record {
-            taken = λ hc he v h. at c v ∙ or-right (g c v) _ (and-from (eqb c c) (g e v) (eq-eqb c c refl) h);
-            kept = λ v h. at c v ∙ or-left (g c v) _ h;
-            others = λ d v ne. at d v ∙ other-same (g d v) (g e v) d c ne;
-            outside = λ never d v. absurd (never p) }
+          taken = λ hc he v h. at c v ∙ or-right (g c v) _ (and-from (eqb c c) (g e v) (eq-eqb c c refl) h);
+          kept = λ v h. at c v ∙ or-left (g c v) _ h;
+          others = λ d v ne. at d v ∙ other-same (g d v) (g e v) d c ne;
+          outside = λ never d v. absurd (never p);
+        }
+
     outside : ((c < 8) × (e < 8) → ⊥) → Taken-in g g′ c e
     outside p =
         let at : (d v : ℕ) → g′ d v ≡ g d v =
-            λ d v. is d v ∙ chosen-false (ltb c 8 && ltb e 8) (joined g c e) g d v (below-false c 8 e 8 p) in
+        λ d v. is d v ∙ chosen-false (ltb c 8 && ltb e 8) (joined g c e) g d v (below-false c 8 e 8 p) in
         record {
-            taken = λ hc he v h. absurd (p (hc, he));
-            kept = λ v h. at c v ∙ h;
-            others = λ d v ne. at d v;
-            outside = λ _ d v. at d v }
+          taken = λ hc he v h. absurd (p (hc, he));
+          kept = λ v h. at c v ∙ h;
+          others = λ d v ne. at d v;
+          outside = λ _ d v. at d v;
+        }
 
 -- clear: rows of which one is emptied in the range keep its sentences
 pub clears : (g g′ : Sets) (c : ℕ) → ((d v : ℕ) → g′ d v ≡ rows-cleared g c d v) → Cleared g g′ c
@@ -56,9 +59,11 @@ clears g g′ c is = ⊎-elim inside outside (cases-lt c 8)
     inside p =
         let at : (d v : ℕ) → g′ d v ≡ emptied g c d v = λ d v. is d v ∙ chosen-true (ltb c 8) (emptied g c) g d v (lt-ltb c 8 p) in
         record {
-            no-more = λ v h. and-parts (not (eqb c c)) (g c v) (sym (at c v) ∙ h) .1;
-            others = λ d v ne. at d v ∙ ap (λ b. not b && g d v) (ne-eqb d c ne);
-            outside = λ never d v. absurd (never p) }
+          no-more = λ v h. and-parts (not (eqb c c)) (g c v) (sym (at c v) ∙ h) .1;
+          others = λ d v ne. at d v ∙ ap (λ b. not b && g d v) (ne-eqb d c ne);
+          outside = λ never d v. absurd (never p);
+        }
+
     outside : 8 ≤ c → Cleared g g′ c
     outside p =
         let at : (d v : ℕ) → g′ d v ≡ g d v = λ d v. is d v ∙ chosen-false (ltb c 8) (emptied g c) g d v (le-ltb c 8 p) in
@@ -72,10 +77,12 @@ words-puts g g′ c w is = ⊎-elim inside outside (below-cases c 8 w 4096)
     inside p =
         let at : (d v : ℕ) → g′ d v ≡ added g c w d v = λ d v. is d v ∙ chosen-true (in-range c w) (added g c w) g d v (below-true c 8 w 4096 p) in
         record {
-            named = λ _. at c w ∙ or-right (g c w) _ (and-from (eqb c c) (eqb w w) (eq-eqb c c refl) (eq-eqb w w refl));
-            kept = λ v h. at c v ∙ or-left (g c v) _ h;
-            others = λ d v ne. at d v ∙ other-same (g d v) (eqb v w) d c ne;
-            outside = λ never d v. absurd (never p) }
+          named = λ _. at c w ∙ or-right (g c w) _ (and-from (eqb c c) (eqb w w) (eq-eqb c c refl) (eq-eqb w w refl));
+          kept = λ v h. at c v ∙ or-left (g c v) _ h;
+          others = λ d v ne. at d v ∙ other-same (g d v) (eqb v w) d c ne;
+          outside = λ never d v. absurd (never p);
+        }
+
     outside : (In-range c w → ⊥) → Put g g′ c w
     outside p =
         let at : (d v : ℕ) → g′ d v ≡ g d v = λ d v. is d v ∙ chosen-false (in-range c w) (added g c w) g d v (below-false c 8 w 4096 p) in
@@ -105,18 +112,20 @@ words-same b b′ d same v = λ i. ltb v 4096 && (same (first-bit v) i && same (
 pub words-take-in : (b b′ : Sets) (c e : ℕ) → Taken-in b b′ c e → Taken-in (words-of-bits b) (words-of-bits b′) c e
 words-take-in b b′ c e t =
     record {
-        taken = λ hc he. words-kept b b′ e c (t .taken hc he);
-        kept = words-kept b b′ c c (t .kept);
-        others = λ d v ne. words-same b b′ d (λ x. t .others d x ne) v;
-        outside = λ p d v. words-same b b′ d (t .outside p d) v }
+      taken = λ hc he. words-kept b b′ e c (t .taken hc he);
+      kept = words-kept b b′ c c (t .kept);
+      others = λ d v ne. words-same b b′ d (λ x. t .others d x ne) v;
+      outside = λ p d v. words-same b b′ d (t .outside p d) v;
+    }
 
 -- clear: the words follow the bits
 pub words-clear : (b b′ : Sets) (c : ℕ) → Cleared b b′ c → Cleared (words-of-bits b) (words-of-bits b′) c
 words-clear b b′ c t =
     record {
-        no-more = words-kept b′ b c c (t .no-more);
-        others = λ d v ne. words-same b b′ d (λ x. t .others d x ne) v;
-        outside = λ p d v. words-same b b′ d (t .outside p d) v }
+      no-more = words-kept b′ b c c (t .no-more);
+      others = λ d v ne. words-same b b′ d (λ x. t .others d x ne) v;
+      outside = λ p d v. words-same b b′ d (t .outside p d) v;
+    }
 
 -- put, Bloom: rows in which the word's two bits are set in the ranges keep its sentences
 pub bits-puts : (b b′ : Sets) (c w : ℕ) → ((d x : ℕ) → b′ d x ≡ bits-put b c w d x) → Put (words-of-bits b) (words-of-bits b′) c w
@@ -124,28 +133,33 @@ bits-puts b b′ c w is = ⊎-elim inside outside (below-cases c 8 w 4096)
   where
     once : Sets
     once = added b c (first-bit w)
+
     own : (x : ℕ) → (eqb c c && eqb x x) ≡ true
     own x = and-from (eqb c c) (eqb x x) (eq-eqb c c refl) (eq-eqb x x refl)
+
     inside : In-range c w → Put (words-of-bits b) (words-of-bits b′) c w
     inside p =
         let at : (d x : ℕ) → b′ d x ≡ added once c (second-bit w) d x =
-            λ d x. is d x ∙ chosen-true (in-range c w) (added once c (second-bit w)) b d x (below-true c 8 w 4096 p) in
+        λ d x. is d x ∙ chosen-true (in-range c w) (added once c (second-bit w)) b d x (below-true c 8 w 4096 p) in
         record {
-            named = λ _. held b′ c w (p .1)
-                (at c (first-bit w) ∙ or-left (once c (first-bit w)) _ (or-right (b c (first-bit w)) _ (own (first-bit w))))
-                (at c (second-bit w) ∙ or-right (once c (second-bit w)) _ (own (second-bit w)));
-            kept = words-kept b b′ c c (λ x h. at c x ∙ or-left (once c x) _ (or-left (b c x) _ h));
-            others = λ d v ne. words-same b b′ d (λ x. at d x ∙ other-same (once d x) _ d c ne ∙ other-same (b d x) _ d c ne) v;
-            outside = λ never d v. absurd (never p) }
+          named = λ _. held b′ c w (p .1)
+              (at c (first-bit w) ∙ or-left (once c (first-bit w)) _ (or-right (b c (first-bit w)) _ (own (first-bit w))))
+              (at c (second-bit w) ∙ or-right (once c (second-bit w)) _ (own (second-bit w)));
+          kept = words-kept b b′ c c (λ x h. at c x ∙ or-left (once c x) _ (or-left (b c x) _ h));
+          others = λ d v ne. words-same b b′ d (λ x. at d x ∙ other-same (once d x) _ d c ne ∙ other-same (b d x) _ d c ne) v;
+          outside = λ never d v. absurd (never p);
+        }
+
     outside : (In-range c w → ⊥) → Put (words-of-bits b) (words-of-bits b′) c w
     outside p =
         let at : (d x : ℕ) → b′ d x ≡ b d x =
-            λ d x. is d x ∙ chosen-false (in-range c w) (added once c (second-bit w)) b d x (below-false c 8 w 4096 p) in
+        λ d x. is d x ∙ chosen-false (in-range c w) (added once c (second-bit w)) b d x (below-false c 8 w 4096 p) in
         record {
-            named = λ q. absurd (p q);
-            kept = λ v h. words-same b b′ c (at c) v ∙ h;
-            others = λ d v ne. words-same b b′ d (at d) v;
-            outside = λ _ d v. words-same b b′ d (at d) v }
+          named = λ q. absurd (p q);
+          kept = λ v h. words-same b b′ c (at c) v ∙ h;
+          others = λ d v ne. words-same b b′ d (at d) v;
+          outside = λ _ d v. words-same b b′ d (at d) v;
+        }
 
 -- a table of rows as long as the words' range holds nothing outside the ranges
 pub rows-bounded : (table : List ℕ) → Bounded (rows-of 64 table)

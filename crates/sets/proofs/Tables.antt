@@ -69,6 +69,7 @@ joined-at table to from (suc n) m fits h unread =
   where
     before : List ℕ
     before = with-joined table to from n
+
     here : m ≡ n → getD (with-joined table to from (suc n)) (to + m) 0 ≡ bitOr (getD table (to + m) 0) (getD table (from + m) 0)
     here e =
         let P : ℕ → Type 0 = λ k. getD (with-joined table to from (suc n)) (to + k) 0 ≡ bitOr (getD table (to + k) 0) (getD table (from + k) 0) in
@@ -76,6 +77,7 @@ joined-at table to from (suc n) m fits h unread =
         let left : getD before (to + n) 0 ≡ getD table (to + n) 0 = joined-other table to from n (to + n) (λ i l q. omega arith) in
         let right : getD before (from + n) 0 ≡ getD table (from + n) 0 = joined-other table to from n (from + n) (λ i l q. unread n i l (omega arith) q) in
         subst P (sym e) (getD-set-same before (to + n) _ 0 within ∙ (λ k. bitOr (left k) (right k)))
+
     there : (m ≡ n → ⊥) → getD before (to + m) 0 ≡ bitOr (getD table (to + m) 0) (getD table (from + m) 0) →
         getD (with-joined table to from (suc n)) (to + m) 0 ≡ bitOr (getD table (to + m) 0) (getD table (from + m) 0)
     there ne earlier =
@@ -100,11 +102,13 @@ emptied-at table start (suc n) m fits h =
   where
     before : List ℕ
     before = with-emptied table start n
+
     here : m ≡ n → getD (with-emptied table start (suc n)) (start + m) 0 ≡ 0
     here e =
         let P : ℕ → Type 0 = λ k. getD (with-emptied table start (suc n)) (start + k) 0 ≡ 0 in
         let within : start + n < length before = rw length-emptied (omega arith) in
         subst P (sym e) (getD-set-same before (start + n) 0 0 within)
+
     there : (m ≡ n → ⊥) → getD before (start + m) 0 ≡ 0 → getD (with-emptied table start (suc n)) (start + m) 0 ≡ 0
     there ne earlier =
         let off : start + m ≢ start + n = λ q. ne (omega arith) in

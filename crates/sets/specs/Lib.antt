@@ -2,3 +2,4 @@
 pub mod Sentences
 pub mod Rows
 pub mod Tables
+pub mod Fills

@@ -6,10 +6,12 @@ use mathlib.Core.Path.{_≡_, ap, _∙_}
 use Prim.Native.Nat.{ℕ}
 use denote.Struct.Props.{props}
 use lib.ListN.{length}
-use Rattle.sets.specs.Rows.{words-put, rows-taken-in, rows-cleared}
-use Rattle.sets.specs.Tables.{rows-of, exact-put, table-taken-in, table-cleared}
-use Rattle.sets.proofs.Ranges.{exact-put-rows, taken-in-rows, cleared-rows}
+use Rattle.sets.specs.Rows.{words-put, bits-put, rows-taken-in, rows-cleared}
+use Rattle.sets.specs.Tables.{rows-of, exact-put, bloom-put, table-taken-in, table-cleared}
+use Rattle.sets.proofs.Ranges.{exact-put-rows, bloom-put-rows, taken-in-rows, cleared-rows}
+use Rattle.signature.specs.Blooms as blooms
 use Rattle.signature.specs.Exacts as exacts
+use Rattle.signature.specs.declared.bloom.Bloom.{Bloom}
 use Rattle.signature.specs.declared.exact.Exact.{Exact}
 
 same-exact : (s t : Exact) → s .words ≡ t .words → s ≡ t
@@ -39,3 +41,31 @@ exact-cleared-is s t c e = same-exact t (exacts.cleared s c) e
 
 pub exact-cleared-holds : (s : Exact) (after : List ℕ) (c : ℕ) → after ≡ table-cleared 64 (s .words) c → (d v : ℕ) → rows-of 64 after d v ≡ rows-cleared (exacts.held s) c d v
 exact-cleared-holds s after c e d v = ap (λ (ws : List ℕ). rows-of 64 ws d v) e ∙ cleared-rows 64 (s .words) c (s .full) d v
+
+same-bloom : (s t : Bloom) → s .words ≡ t .words → s ≡ t
+same-bloom s t e =
+    λ i. record { words = e i; full = isProp→PathP (λ j. length (e j) ≡ 32) (λ j. search props) (s .full) (t .full) i }
+
+-- the bloom signature after a put
+pub bloom-put-is : (s t : Bloom) (c w : ℕ) → t .words ≡ bloom-put (s .words) c w → t ≡ blooms.put s c w
+unfolding blooms.put
+bloom-put-is s t c w e = same-bloom t (blooms.put s c w) e
+
+pub bloom-put-holds : (s : Bloom) (after : List ℕ) (c w : ℕ) → after ≡ bloom-put (s .words) c w → (d v : ℕ) → rows-of 4 after d v ≡ bits-put (blooms.bits s) c w d v
+bloom-put-holds s after c w e d v = ap (λ (ws : List ℕ). rows-of 4 ws d v) e ∙ bloom-put-rows (s .words) c w (s .full) d v
+
+-- the bloom signature after a take in
+pub bloom-taken-in-is : (s t : Bloom) (c o : ℕ) → t .words ≡ table-taken-in 4 (s .words) c o → t ≡ blooms.taken-in s c o
+unfolding blooms.taken-in
+bloom-taken-in-is s t c o e = same-bloom t (blooms.taken-in s c o) e
+
+pub bloom-taken-in-holds : (s : Bloom) (after : List ℕ) (c o : ℕ) → after ≡ table-taken-in 4 (s .words) c o → (d v : ℕ) → rows-of 4 after d v ≡ rows-taken-in (blooms.bits s) c o d v
+bloom-taken-in-holds s after c o e d v = ap (λ (ws : List ℕ). rows-of 4 ws d v) e ∙ taken-in-rows 4 (s .words) c o (s .full) d v
+
+-- the bloom signature after a clear
+pub bloom-cleared-is : (s t : Bloom) (c : ℕ) → t .words ≡ table-cleared 4 (s .words) c → t ≡ blooms.cleared s c
+unfolding blooms.cleared
+bloom-cleared-is s t c e = same-bloom t (blooms.cleared s c) e
+
+pub bloom-cleared-holds : (s : Bloom) (after : List ℕ) (c : ℕ) → after ≡ table-cleared 4 (s .words) c → (d v : ℕ) → rows-of 4 after d v ≡ rows-cleared (blooms.bits s) c d v
+bloom-cleared-holds s after c e d v = ap (λ (ws : List ℕ). rows-of 4 ws d v) e ∙ cleared-rows 4 (s .words) c (s .full) d v

@@ -1,2 +1,3 @@
 -- The definitions that the contracts of signatures cite.
 pub mod Exacts
+pub mod Blooms

@@ -1,9 +1,11 @@
 //! Signatures: for each core the set of words that it has to fetch again. The interface by its sentences, the exact signature
 //! and the Bloom signature.
 
-mod table;
+pub mod bloom;
 pub mod exact;
 pub mod interface;
+mod table;
 
+pub use bloom::Bloom;
 pub use exact::Exact;
 pub use interface::Signature;

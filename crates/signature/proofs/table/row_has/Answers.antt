@@ -13,5 +13,6 @@ returns c = c .has-bit .ensures ∙ sym (rows-in (c .args .width) _ (c .args .co
 pub returns-then-core-ge8 : need.returns-then-core-ge8
 returns-then-core-ge8 c =
     elim (c .then-core-ge8 .came) [
-      then-core-ge8·by·then-core-ge8 w ↦ sym (rows-past-core (c .args .width) _ (c .args .core) (c .args .x) (omega arith))
-    | then-core-ge8·by·else-core-ge8·then-x-width w ↦ sym (rows-past-end (c .args .width) _ (c .args .core) (c .args .x) (omega arith)) ]
+      | then-core-ge8·by·then-core-ge8 w ↦ sym (rows-past-core (c .args .width) _ (c .args .core) (c .args .x) (omega arith))
+      | then-core-ge8·by·else-core-ge8·then-x-width w ↦ sym (rows-past-end (c .args .width) _ (c .args .core) (c .args .x) (omega arith))
+    ]

@@ -1,0 +1,6 @@
+use mathlib.Core.Path.{refl}
+use Rattle.sets.proofs.Rows.{rows-empty}
+use Rattle.signature.proofs.bloom.Bloom.new.Needs as need
+
+pub returns : need.returns
+returns c = record { value = refl; empty = λ d v. rows-empty 4 32 d v }
