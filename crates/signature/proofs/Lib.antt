@@ -1,2 +1,3 @@
 -- Lemmas on signatures.
 pub mod Same
+pub mod Changes

@@ -5,7 +5,7 @@ use mathlib.Core.List.{List}
 use mathlib.Core.Path.{_≡_, ap, _∙_}
 use Prim.Native.Nat.{ℕ}
 use denote.Struct.Props.{props}
-use lib.ListN.{length}
+use lib.ListN.{length, replicate}
 use Rattle.sets.specs.Rows.{words-put, bits-put, rows-taken-in, rows-cleared}
 use Rattle.sets.specs.Tables.{rows-of, exact-put, bloom-put, table-taken-in, table-cleared}
 use Rattle.sets.proofs.Ranges.{exact-put-rows, bloom-put-rows, taken-in-rows, cleared-rows}
@@ -17,6 +17,11 @@ use Rattle.signature.specs.declared.exact.Exact.{Exact}
 same-exact : (s t : Exact) → s .words ≡ t .words → s ≡ t
 same-exact s t e =
     λ i. record { words = e i; full = isProp→PathP (λ j. length (e j) ≡ 512) (λ j. search props) (s .full) (t .full) i }
+
+-- the exact signature as it is made
+pub exact-fresh : (t : Exact) → t .words ≡ replicate 512 0 → t ≡ exacts.fresh
+unfolding exacts.fresh
+exact-fresh t e = same-exact t exacts.fresh e
 
 -- the exact signature after a put
 pub exact-put-is : (s t : Exact) (c w : ℕ) → t .words ≡ exact-put (s .words) c w → t ≡ exacts.put s c w
@@ -45,6 +50,11 @@ exact-cleared-holds s after c e d v = ap (λ (ws : List ℕ). rows-of 64 ws d v)
 same-bloom : (s t : Bloom) → s .words ≡ t .words → s ≡ t
 same-bloom s t e =
     λ i. record { words = e i; full = isProp→PathP (λ j. length (e j) ≡ 32) (λ j. search props) (s .full) (t .full) i }
+
+-- the bloom signature as it is made
+pub bloom-fresh : (t : Bloom) → t .words ≡ replicate 32 0 → t ≡ blooms.fresh
+unfolding blooms.fresh
+bloom-fresh t e = same-bloom t blooms.fresh e
 
 -- the bloom signature after a put
 pub bloom-put-is : (s t : Bloom) (c w : ℕ) → t .words ≡ bloom-put (s .words) c w → t ≡ blooms.put s c w

@@ -1,8 +1,8 @@
 -- The Bloom signature: which bits it has, what its sets hold by them, and what it is after each operation; the facts beside them
 -- show that it keeps the sentences of every signature. Assumes nothing.
-use mathlib.Core.List.{List}
 use mathlib.Core.Path.{_∙_}
 use Prim.Native.Nat.{ℕ}
+use lib.ListN.{replicate, length-replicate}
 use Rattle.sets.specs.Sentences.{Sets, Put, Taken-in, Cleared, Bounded}
 use Rattle.sets.specs.Rows.{words-of-bits}
 use Rattle.sets.specs.Tables.{rows-of, bloom-put, table-taken-in, table-cleared}
@@ -10,17 +10,17 @@ use Rattle.sets.proofs.Ranges.{bloom-put-rows, taken-in-rows, cleared-rows, len
 use Rattle.sets.proofs.Sentences.{bits-puts, takes-in, clears, words-take-in, words-clear, bits-bounded}
 use Rattle.signature.specs.declared.bloom.Bloom.{Bloom}
 
--- the table of its bits, 4 words of 64 bits a core
-abbrev pub table : Bloom → List ℕ
-table s = s .words
-
--- whether a bit of a core is set, as a test of (core, bit)
+-- whether a bit of a core is set in its row of 4 words of 64 bits, as a test of (core, bit)
 abbrev pub bits : Bloom → Sets
 bits s = rows-of 4 (s .words)
 
 -- whether a core's set holds a word: both of the word's bits are set
 abbrev pub held : Bloom → Sets
 held s = words-of-bits (bits s)
+
+-- the signature whose bits are all 0
+unfoldable pub fresh : Bloom
+fresh = record { words = replicate 32 0; full = length-replicate {A = ℕ} 32 0 }
 
 -- after a put: the word's two bits are set
 unfoldable pub put : Bloom → ℕ → ℕ → Bloom

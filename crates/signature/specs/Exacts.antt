@@ -1,21 +1,21 @@
 -- The exact signature: what its sets hold, and what it is after each operation; the facts beside them show that it keeps the
 -- sentences of every signature. Assumes nothing.
-use mathlib.Core.List.{List}
 use mathlib.Core.Path.{_∙_}
 use Prim.Native.Nat.{ℕ}
+use lib.ListN.{replicate, length-replicate}
 use Rattle.sets.specs.Sentences.{Sets, Put, Taken-in, Cleared, Bounded}
 use Rattle.sets.specs.Tables.{rows-of, exact-put, table-taken-in, table-cleared}
 use Rattle.sets.proofs.Ranges.{exact-put-rows, taken-in-rows, cleared-rows, length-exact-put, length-taken-in, length-cleared}
 use Rattle.sets.proofs.Sentences.{words-puts, takes-in, clears, rows-bounded}
 use Rattle.signature.specs.declared.exact.Exact.{Exact}
 
--- the table of its bits, 64 words of 64 bits a core
-abbrev pub table : Exact → List ℕ
-table s = s .words
-
--- whether a core's set holds a word: the bit of that word in the core's row is set
+-- whether a core's set holds a word: the word's bit is set in the core's row of 64 words of 64 bits
 abbrev pub held : Exact → Sets
 held s = rows-of 64 (s .words)
+
+-- the signature whose sets are all empty
+unfoldable pub fresh : Exact
+fresh = record { words = replicate 512 0; full = length-replicate {A = ℕ} 512 0 }
 
 -- after a put: the word's bit is set
 unfoldable pub put : Exact → ℕ → ℕ → Exact

@@ -2,10 +2,12 @@
 //! and the Bloom signature.
 
 pub mod bloom;
+pub mod change;
 pub mod exact;
 pub mod interface;
 mod table;
 
 pub use bloom::Bloom;
+pub use change::Change;
 pub use exact::Exact;
 pub use interface::Signature;

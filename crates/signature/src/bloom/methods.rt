@@ -1,12 +1,12 @@
 //! How the Bloom signature is made, and what it does.
 ghost use Prim.Native.Nat.{ℕ, _≤_, _%_, _+_, _*_, _/_};
-ghost use lib.ListN.{length, replicate};
+ghost use lib.ListN.{length};
 ghost use mathlib.Core.Bool.{false};
 ghost use mathlib.Core.Path.{_≡_};
 ghost use Rattle.sets.specs.Fills.{word-fill, fill as fill-of};
 ghost use Rattle.sets.specs.Rows.{bits-put, rows-taken-in, rows-cleared, first-bit, second-bit};
 ghost use Rattle.sets.specs.Tables.{bloom-put};
-ghost use Rattle.signature.specs.Blooms.{table, bits, held, put as put-bloom, taken-in, cleared, bounded as is-bounded, puts as put-sentence, takes, clears-it};
+ghost use Rattle.signature.specs.Blooms.{fresh, bits, held, put as put-bloom, taken-in, cleared, bounded as is-bounded, puts as put-sentence, takes, clears-it};
 use super::Bloom;
 use crate::interface::Signature;
 use crate::table::clear_row;
@@ -50,7 +50,7 @@ fn ones_of(word: u64) -> u16
 impl Bloom {
     /// The Bloom signature whose bits are all 0.
     pub fn new() -> Bloom
-        ensures value { λ r. ⌜ table r ≡ replicate 32 0 ⌝ }
+        ensures value { λ r. ⌜ r ≡ fresh ⌝ }
         ensures empty { λ r. ⌜ ((core x : ℕ) → bits r core x ≡ false) ⌝ }
     {
         Bloom { words: [0; 32] }

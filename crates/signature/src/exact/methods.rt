@@ -1,11 +1,11 @@
 //! How the exact signature is made, and what it does.
 ghost use Prim.Native.Nat.{ℕ};
-ghost use lib.ListN.{length, replicate};
+ghost use lib.ListN.{length};
 ghost use mathlib.Core.Bool.{false};
 ghost use mathlib.Core.Path.{_≡_};
 ghost use Rattle.sets.specs.Rows.{words-put, rows-taken-in, rows-cleared};
 ghost use Rattle.sets.specs.Tables.{exact-put};
-ghost use Rattle.signature.specs.Exacts.{table, held, put as put-exact, taken-in, cleared, bounded as is-bounded, puts as put-sentence, takes, clears-it};
+ghost use Rattle.signature.specs.Exacts.{fresh, held, put as put-exact, taken-in, cleared, bounded as is-bounded, puts as put-sentence, takes, clears-it};
 use super::Exact;
 use crate::interface::Signature;
 use crate::table::clear_row;
@@ -26,7 +26,7 @@ fn put_word(table: &mut [u64], core: u8, word: u16)
 impl Exact {
     /// The exact signature whose sets are all empty.
     pub fn new() -> Exact
-        ensures value { λ r. ⌜ table r ≡ replicate 512 0 ⌝ }
+        ensures value { λ r. ⌜ r ≡ fresh ⌝ }
         ensures empty { λ r. ⌜ ((core word : ℕ) → held r core word ≡ false) ⌝ }
     {
         Exact { words: [0; 512] }

@@ -1,6 +1,7 @@
 use mathlib.Core.Path.{refl}
 use Rattle.sets.proofs.Rows.{rows-empty}
+use Rattle.signature.proofs.Same.{bloom-fresh}
 use Rattle.signature.proofs.bloom.Bloom.new.Needs as need
 
 pub returns : need.returns
-returns c = record { value = refl; empty = λ d v. rows-empty 4 32 d v }
+returns c = record { value = bloom-fresh _ refl; empty = λ d v. rows-empty 4 32 d v }
