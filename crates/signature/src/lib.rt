@@ -11,3 +11,6 @@ pub use bloom::Bloom;
 pub use change::Change;
 pub use exact::Exact;
 pub use interface::Signature;
+
+#[cfg(test)]
+mod tests;
