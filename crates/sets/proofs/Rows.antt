@@ -215,9 +215,10 @@ rows-emptied width table c d y size hc = by-range width d y _ inside past-core p
         rows-past-end width T d y h ∙ sym (ap (λ b. not (eqb d c) && b) (rows-past-end width table d y h) ∙ and-false (not (eqb d c)))
 
 -- a table of zeros means empty rows
-pub rows-empty : (width n d x : ℕ) → rows-of width (replicate n 0) d x ≡ false
+pub rows-empty : (width n : ℕ) (table : List ℕ) → table ≡ replicate n 0 → (d x : ℕ) → rows-of width table d x ≡ false
 unfolding rows-of
-rows-empty width n d x =
+rows-empty width n table is d x =
+    ap (λ (t : List ℕ). rows-of width t d x) is ∙
     let word : getD (replicate n 0) (d * width + x / 64) 0 ≡ 0 =
     ⊎-elim (getD-replicate n (d * width + x / 64) 0 0)
     (λ h. getD-past (replicate n 0) (d * width + x / 64) 0 (rw length-replicate h)) (cases-lt (d * width + x / 64) n) in

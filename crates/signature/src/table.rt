@@ -1,6 +1,7 @@
 //! Rows of bits in a table of 64-bit words, which both signatures keep: test and set a bit, join a row to another, empty a row.
 ghost use Prim.Native.Nat.{ℕ, _+_, _*_, _/_, _^_, _<_, _≤_};
-ghost use lib.ListN.{length};
+ghost use lib.Bits.{bitOr};
+ghost use lib.ListN.{length, getD, set, replicate};
 ghost use mathlib.Core.Path.{_≡_};
 ghost use Rattle.sets.specs.Tables.{row-bit, rows-of, with-bit, with-joined, with-emptied, table-taken-in, table-cleared};
 
@@ -21,7 +22,12 @@ pub(crate) fn take_in_row(table: &mut [u64], width: usize, core: u8, other: u8)
     ensures { λ _. ⌜ now (table .exit) ≡ table-taken-in width (now (table .entry)) core other ⌝ }
 {
     if core < 8 && other < 8 {
-        join_words(table, core as usize * width, other as usize * width, width);
+        join_words(
+            table,
+            row_start(core, width),
+            row_start(other, width),
+            width,
+        );
     }
 }
 
@@ -31,8 +37,24 @@ pub(crate) fn clear_row(table: &mut [u64], width: usize, core: u8)
     ensures { λ _. ⌜ now (table .exit) ≡ table-cleared width (now (table .entry)) core ⌝ }
 {
     if core < 8 {
-        empty_words(table, core as usize * width, width);
+        empty_words(table, row_start(core, width), width);
     }
+}
+
+/// A table in which no bit is set.
+pub(crate) fn empty_table<const N: usize>() -> [u64; N]
+    ensures { λ r. ⌜ r ≡ replicate N 0 ⌝ }
+{
+    [0; N]
+}
+
+// The word at which a core's row starts.
+fn row_start(core: u8, width: usize) -> usize
+    requires { ⌜ core < 8 ⌝ ∗ ⌜ width ≤ 64 ⌝ }
+    ensures value { λ r. ⌜ r ≡ core * width ⌝ }
+    ensures within { λ r. ⌜ r + width ≤ 8 * width ⌝ }
+{
+    core as usize * width
 }
 
 // Whether bit `x` is set of the row that starts at the word `start`.
@@ -57,9 +79,17 @@ fn join_words(table: &mut [u64], to: usize, from: usize, count: usize)
     ensures { λ _. ⌜ now (table .exit) ≡ with-joined (now (table .entry)) to from count ⌝ }
 {
     for i in 0..count {
-        let word = table[from + i];
-        table[to + i] |= word;
+        join_word(table, to + i, from + i);
     }
+}
+
+// Joins the word at place `to` with the word at place `from`.
+fn join_word(table: &mut [u64], to: usize, from: usize)
+    requires { ⌜ to < length (now table) ⌝ ∗ ⌜ from < length (now table) ⌝ }
+    ensures { λ _. ⌜ now (table .exit) ≡ set (now (table .entry)) to (bitOr (getD (now (table .entry)) to 0) (getD (now (table .entry)) from 0)) ⌝ }
+{
+    let word = table[from];
+    table[to] |= word;
 }
 
 // Empties `count` words from place `start` on.

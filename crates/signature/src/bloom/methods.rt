@@ -1,6 +1,6 @@
 //! How the Bloom signature is made, and what it does.
 ghost use Prim.Native.Nat.{ℕ, _≤_, _%_, _+_, _*_, _/_};
-ghost use lib.ListN.{length};
+ghost use lib.ListN.{length, getD};
 ghost use mathlib.Core.Bool.{false};
 ghost use mathlib.Core.Path.{_≡_};
 ghost use Rattle.sets.specs.Fills.{word-fill, fill as fill-of};
@@ -10,6 +10,7 @@ ghost use Rattle.signature.specs.Blooms.{fresh, bits, held, put as put-bloom, 
 use super::Bloom;
 use crate::interface::Signature;
 use crate::table::clear_row;
+use crate::table::empty_table;
 use crate::table::row_has;
 use crate::table::set_bit;
 use crate::table::take_in_row;
@@ -47,13 +48,24 @@ fn ones_of(word: u64) -> u16
     word.count_ones() as u16
 }
 
+// How many bits of the four words from place `start` on are set.
+fn ones_from(table: &[u64], start: usize) -> u16
+    requires { ⌜ start + 4 ≤ length (now table) ⌝ }
+    ensures { λ r. ⌜ r ≡ word-fill (getD (now (table .entry)) start 0) + word-fill (getD (now (table .entry)) (start + 1) 0) + word-fill (getD (now (table .entry)) (start + 2) 0) + word-fill (getD (now (table .entry)) (start + 3) 0) ⌝ }
+{
+    let low = ones_of(table[start]) + ones_of(table[start + 1]);
+    low + ones_of(table[start + 2]) + ones_of(table[start + 3])
+}
+
 impl Bloom {
     /// The Bloom signature whose bits are all 0.
     pub fn new() -> Bloom
         ensures value { λ r. ⌜ r ≡ fresh ⌝ }
         ensures empty { λ r. ⌜ ((core x : ℕ) → bits r core x ≡ false) ⌝ }
     {
-        Bloom { words: [0; 32] }
+        Bloom {
+            words: empty_table::<32>(),
+        }
     }
 
     /// How many of a core's 256 bits are set; 0 of a core above 7.
@@ -63,9 +75,7 @@ impl Bloom {
         if core >= 8 {
             return 0;
         }
-        let start = core as usize * 4;
-        let low = ones_of(self.words[start]) + ones_of(self.words[start + 1]);
-        low + ones_of(self.words[start + 2]) + ones_of(self.words[start + 3])
+        ones_from(&self.words, core as usize * 4)
     }
 }
 

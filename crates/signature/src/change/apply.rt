@@ -23,6 +23,15 @@ fn make<S: Signature>(s: &mut S, change: Change)
     }
 }
 
+// Makes one change to the exact signature and to another.
+fn make_both<S: Signature>(exact: &mut Exact, other: &mut S, change: Change)
+    ensures exactly { λ _. ⌜ now (exact .exit) ≡ changed put-exact taken-in-exact cleared-exact (now (exact .entry)) change ⌝ }
+    ensures after { λ _. ⌜ now (other .exit) ≡ changed «put_of» «take_in_of» «clear_of» (now (other .entry)) change ⌝ }
+{
+    make(exact, change);
+    make(other, change);
+}
+
 /// Makes a list of changes in turn, to any signature.
 pub fn apply<S: Signature>(s: &mut S, changes: &[Change])
     ensures { λ _. ⌜ now (s .exit) ≡ applied «put_of» «take_in_of» «clear_of» (now (s .entry)) (now (changes .entry)) ⌝ }
@@ -39,8 +48,9 @@ pub fn apply_to_both<S: Signature>(exact: &mut Exact, other: &mut S, changes: &[
     ensures after { λ _. ⌜ now (other .exit) ≡ applied «put_of» «take_in_of» «clear_of» (now (other .entry)) (now (changes .entry)) ⌝ }
     ensures never_loses { λ _. ⌜ (Within (held-exact (now (exact .entry))) (holds (now (other .entry))) → Within (held-exact (now (exact .exit))) (holds (now (other .exit)))) ⌝ }
 {
-    apply(exact, changes);
-    apply(other, changes);
+    for change in changes {
+        make_both(exact, other, *change);
+    }
 }
 
 /// The exact and the Bloom signature after the same changes, both from all sets empty: every word that the exact signature

@@ -9,6 +9,7 @@ ghost use Rattle.signature.specs.Exacts.{fresh, held, put as put-exact, taken-
 use super::Exact;
 use crate::interface::Signature;
 use crate::table::clear_row;
+use crate::table::empty_table;
 use crate::table::row_has;
 use crate::table::set_bit;
 use crate::table::take_in_row;
@@ -29,7 +30,9 @@ impl Exact {
         ensures value { λ r. ⌜ r ≡ fresh ⌝ }
         ensures empty { λ r. ⌜ ((core word : ℕ) → held r core word ≡ false) ⌝ }
     {
-        Exact { words: [0; 512] }
+        Exact {
+            words: empty_table::<512>(),
+        }
     }
 }
 

@@ -1,5 +1,4 @@
 use mathlib.Core.Path.{_∙_}
-use Prim.Native.Nat.{_+_}
 use native.Mathlib.Omega.{arith}
 use Rattle.sets.proofs.Fills.{fill-is, fill-past}
 use Rattle.signature.proofs.bloom.Bloom.fill.Needs as need
@@ -8,6 +7,4 @@ pub returns-then-core-ge8 : need.returns-then-core-ge8
 returns-then-core-ge8 c = fill-past _ (c .args .core) (omega arith)
 
 pub returns : need.returns
-returns c =
-    let whole = fill-is (c .args .self .now .words) (c .args .core) (omega arith) in
-    (λ i. c .ones-of .ensures .value i + c .ones-of-2 .ensures .value i + c .ones-of-3 .ensures .value i + c .ones-of-4 .ensures .value i) ∙ whole
+returns c = c .ones-from .ensures ∙ fill-is (c .args .self .now .words) (c .args .core) (omega arith)
