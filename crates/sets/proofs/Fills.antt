@@ -12,9 +12,9 @@ use lib.Count.{ones, ones-step, ones-le}
 use lib.Dec.{eqb}
 use lib.ListN.{getD}
 use Rattle.std.proofs.shelf.Bits.{shr-shr, mod-below, div-mul-add, mod-mul-add, shr-below}
-use Rattle.sets.specs.Fills.{bits-from, set-count, word-fill, fill}
+use Rattle.sets.specs.Fills.{bits-from, set-count, word-fill}
 use Rattle.sets.specs.Tables.{bit, rows-of}
-use Rattle.sets.proofs.Rows.{rows-in, rows-past-core}
+use Rattle.sets.proofs.Rows.{rows-in}
 
 -- lists of equal tests are equal
 bits-alike : (f g : ℕ → Bool) (a b n : ℕ) → ((i : ℕ) → i < n → f (a + i) ≡ g (b + i)) → bits-from f a n ≡ bits-from g b n
@@ -37,12 +37,6 @@ count-parts f a (suc m) n =
     ap (λ k. set-count (bits-from f a k)) more ∙
     ap (λ k. cond {A = ℕ} (f a) 1 0 + k) (count-parts f (a + 1) m n ∙ ap (λ k. set-count (bits-from f (a + 1) m) + set-count (bits-from f k n)) on) ∙
     sym (add-assoc (cond {A = ℕ} (f a) 1 0) (set-count (bits-from f (a + 1) m)) (set-count (bits-from f (a + suc m) n)))
-
--- of a row with no bit set none is counted
-count-none : (f : ℕ → Bool) (a n : ℕ) → ((i : ℕ) → f i ≡ false) → set-count (bits-from f a n) ≡ 0
-unfolding bits-from
-count-none f a zero h = refl
-count-none f a (suc n) h = (λ i. cond {A = ℕ} (h a i) 1 0 + set-count (bits-from f (a + 1) n)) ∙ zero-add _ ∙ count-none f (a + 1) n h
 
 -- the last bit of a number counts as its last digit
 digit-counts : (p : ℕ) → p < 2 → cond {A = ℕ} (eqb p 1) 1 0 ≡ p
@@ -73,9 +67,9 @@ word-counts table c q hc hq =
     (λ i l. ap (λ j. bit (getD table (c * 4 + q) 0) j) (zero-add i) ∙
     sym (rows-in 4 table c (q * 64 + i) hc (omega arith) ∙ (λ k. bit (getD table (c * 4 + div-mul-add q 64 i l k) 0) (mod-mul-add q 64 i l k)))))
 
--- the fill of a core is the sum of its four words' bits that are set
+-- the number of set bits of a core is the sum of its four words' bits that are set
 pub fill-is : (table : List ℕ) (c : ℕ) → c < 8 →
-    word-fill (getD table (c * 4) 0) + word-fill (getD table (c * 4 + 1) 0) + word-fill (getD table (c * 4 + 2) 0) + word-fill (getD table (c * 4 + 3) 0) ≡ fill (rows-of 4 table) c
+    word-fill (getD table (c * 4) 0) + word-fill (getD table (c * 4 + 1) 0) + word-fill (getD table (c * 4 + 2) 0) + word-fill (getD table (c * 4 + 3) 0) ≡ set-count (bits-from (rows-of 4 table c) 0 256)
 fill-is table c hc =
     let first : word-fill (getD table (c * 4) 0) ≡ set-count (bits-from (rows-of 4 table c) 0 64) =
     ap (λ p. word-fill (getD table p 0)) (sym (add-zero (c * 4))) ∙ word-counts table c 0 hc (omega arith) in
@@ -86,7 +80,3 @@ fill-is table c hc =
     let two = count-parts (rows-of 4 table c) 64 64 128 in
     let three = count-parts (rows-of 4 table c) 128 64 64 in
     omega (arith, first, second, third, fourth, one, two, three)
-
--- the fill of a core above 7 is 0
-pub fill-past : (table : List ℕ) (c : ℕ) → 8 ≤ c → 0 ≡ fill (rows-of 4 table) c
-fill-past table c h = sym (count-none (rows-of 4 table c) 0 256 (λ x. rows-past-core 4 table c x h))

@@ -2,6 +2,7 @@
 use mathlib.Core.Bool.{Bool, cond}
 use mathlib.Core.List.{List, [], _∷_}
 use Prim.Native.Nat.{ℕ, zero, suc, _+_}
+use lib.Dec.{ltb}
 use Rattle.sets.specs.Sentences.{Sets}
 use Rattle.sets.specs.Tables.{bit}
 
@@ -19,6 +20,6 @@ set-count (b ∷ bs) = cond {A = ℕ} b 1 0 + set-count bs
 abbrev pub word-fill : ℕ → ℕ
 word-fill word = set-count (bits-from (bit word) 0 64)
 
--- the fill of a core: how many of its row's 256 bits are set
+-- the fill of a core: how many of its row's 256 bits are set, 0 above core 7
 abbrev pub fill : Sets → ℕ → ℕ
-fill rows core = set-count (bits-from (rows core) 0 256)
+fill rows core = cond (ltb core 8) (set-count (bits-from (rows core) 0 256)) 0

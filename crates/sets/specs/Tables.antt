@@ -1,13 +1,12 @@
 -- Eight rows of bits in one table of 64-bit words, a row in `width` words one after another: which bit is where, and what the
 -- table is after a bit is set, a row joined to another or a row emptied. Assumes nothing.
-use mathlib.Core.Bool.{Bool, cond, _&&_}
+use mathlib.Core.Bool.{Bool, _&&_}
 use mathlib.Core.List.{List}
 use Prim.Native.Nat.{ℕ, zero, suc, _+_, _*_, _/_, _%_, _^_}
 use lib.Bits.{bitOr}
 use lib.Dec.{eqb, ltb}
 use lib.ListN.{getD, set}
 use Rattle.sets.specs.Sentences.{Sets}
-use Rattle.sets.specs.Rows.{in-range, first-bit, second-bit}
 
 -- whether bit i of a number is set, the lowest being bit 0
 abbrev pub bit : ℕ → ℕ → Bool
@@ -36,21 +35,3 @@ with-joined table to from (suc n) =
 unfoldable pub with-emptied : List ℕ → ℕ → ℕ → List ℕ
 with-emptied table start zero = table
 with-emptied table start (suc n) = set (with-emptied table start n) (start + n) 0
-
--- the table of the exact signature, 64 words a core, after a word is put
-abbrev pub exact-put : List ℕ → ℕ → ℕ → List ℕ
-exact-put table core word = cond (in-range core word) (with-bit table (core * 64) word) table
-
--- the table of the Bloom signature, 4 words a core, after a word is put
-abbrev pub bloom-put : List ℕ → ℕ → ℕ → List ℕ
-bloom-put table core word =
-    cond (in-range core word) (with-bit (with-bit table (core * 4) (first-bit word)) (core * 4) (second-bit word)) table
-
--- a table after a core's row has taken in the other core's
-abbrev pub table-taken-in : ℕ → List ℕ → ℕ → ℕ → List ℕ
-table-taken-in width table core other =
-    cond (ltb core 8 && ltb other 8) (with-joined table (core * width) (other * width) width) table
-
--- a table after a core's row is cleared
-abbrev pub table-cleared : ℕ → List ℕ → ℕ → List ℕ
-table-cleared width table core = cond (ltb core 8) (with-emptied table (core * width) width) table

@@ -9,9 +9,8 @@ use Rattle.std.proofs.shelf.Lists.{at-drop-more, at-drop-all}
 use Rattle.sets.specs.Sentences.{Sets, Within, Taken-in, Cleared}
 use Rattle.sets.specs.Sentences as sentence
 use Rattle.sets.proofs.Least.{least-put, least-take-in, least-clear}
-use Rattle.sets.proofs.Ranges.{exact-put-rows, taken-in-rows, cleared-rows}
 use Rattle.signature.specs.Changes.{changed, applied}
-use Rattle.signature.specs.Exacts.{held, put, taken-in, cleared}
+use Rattle.signature.specs.Exacts.{held, put, taken-in, cleared, put-holds, taken-in-holds, cleared-holds}
 use Rattle.signature.specs.declared.change.Change.{Change}
 use Rattle.signature.specs.declared.change.Change.the-variants.{Put, TakeIn, Clear}
 use Rattle.signature.specs.declared.exact.Exact.{Exact}
@@ -30,13 +29,12 @@ one-within : {S : Type 0} (holds : S → Sets) (p t : S → ℕ → ℕ → S) (
     ((s : S) (c w : ℕ) → sentence.Put (holds s) (holds (p s c w)) c w) → ((s : S) (c o : ℕ) → Taken-in (holds s) (holds (t s c o)) c o) →
     ((s : S) (c : ℕ) → Cleared (holds s) (holds (l s c)) c) → (e : Exact) (s : S) (x : Change) →
     Within (held e) (holds s) → Within (held (changed put taken-in cleared e x)) (holds (changed p t l s x))
-unfolding put taken-in cleared
 one-within holds p t l puts takes clears e s (Put c w) within =
-    least-put (held e) (held (put e c w)) (holds s) (holds (p s c w)) c w (exact-put-rows (e .words) c w (e .full)) (puts s c w) within
+    least-put (held e) (held (put e c w)) (holds s) (holds (p s c w)) c w (put-holds e c w) (puts s c w) within
 one-within holds p t l puts takes clears e s (TakeIn c o) within =
-    least-take-in (held e) (held (taken-in e c o)) (holds s) (holds (t s c o)) c o (taken-in-rows 64 (e .words) c o (e .full)) (takes s c o) within
+    least-take-in (held e) (held (taken-in e c o)) (holds s) (holds (t s c o)) c o (taken-in-holds e c o) (takes s c o) within
 one-within holds p t l puts takes clears e s (Clear c) within =
-    least-clear (held e) (held (cleared e c)) (holds s) (holds (l s c)) c (cleared-rows 64 (e .words) c (e .full)) (clears s c) within
+    least-clear (held e) (held (cleared e c)) (holds s) (holds (l s c)) c (cleared-holds e c) (clears s c) within
 
 -- no list of changes loses a word
 pub never-loses : {S : Type 0} (holds : S → Sets) (p t : S → ℕ → ℕ → S) (l : S → ℕ → S) →

@@ -1,9 +1,9 @@
 //! Rows of bits in a table of 64-bit words, which both signatures keep: test and set a bit, join a row to another, empty a row.
 ghost use Prim.Native.Nat.{ℕ, _+_, _*_, _/_, _^_, _<_, _≤_};
 ghost use lib.Bits.{bitOr};
-ghost use lib.ListN.{length, getD, set, replicate};
+ghost use lib.ListN.{length, getD, set};
 ghost use mathlib.Core.Path.{_≡_};
-ghost use Rattle.sets.specs.Tables.{row-bit, rows-of, with-bit, with-joined, with-emptied, table-taken-in, table-cleared};
+ghost use Rattle.sets.specs.Tables.{row-bit, rows-of, with-bit, with-joined, with-emptied};
 
 /// Whether a core's row has bit `x`, where a row has `width` words; no above core 7 and past the row's end.
 pub(crate) fn row_has(table: &[u64], width: usize, core: u8, x: usize) -> bool
@@ -14,47 +14,6 @@ pub(crate) fn row_has(table: &[u64], width: usize, core: u8, x: usize) -> bool
         return false;
     }
     has_bit(table, core as usize * width, x)
-}
-
-/// Joins a core's row with another core's. Above core 7 the table stays.
-pub(crate) fn take_in_row(table: &mut [u64], width: usize, core: u8, other: u8)
-    requires { ⌜ length (now table) ≡ 8 * width ⌝ ∗ ⌜ width ≤ 64 ⌝ }
-    ensures { λ _. ⌜ now (table .exit) ≡ table-taken-in width (now (table .entry)) core other ⌝ }
-{
-    if core < 8 && other < 8 {
-        join_words(
-            table,
-            row_start(core, width),
-            row_start(other, width),
-            width,
-        );
-    }
-}
-
-/// Empties a core's row. Above core 7 the table stays.
-pub(crate) fn clear_row(table: &mut [u64], width: usize, core: u8)
-    requires { ⌜ length (now table) ≡ 8 * width ⌝ ∗ ⌜ width ≤ 64 ⌝ }
-    ensures { λ _. ⌜ now (table .exit) ≡ table-cleared width (now (table .entry)) core ⌝ }
-{
-    if core < 8 {
-        empty_words(table, row_start(core, width), width);
-    }
-}
-
-/// A table in which no bit is set.
-pub(crate) fn empty_table<const N: usize>() -> [u64; N]
-    ensures { λ r. ⌜ r ≡ replicate N 0 ⌝ }
-{
-    [0; N]
-}
-
-// The word at which a core's row starts.
-fn row_start(core: u8, width: usize) -> usize
-    requires { ⌜ core < 8 ⌝ ∗ ⌜ width ≤ 64 ⌝ }
-    ensures value { λ r. ⌜ r ≡ core * width ⌝ }
-    ensures within { λ r. ⌜ r + width ≤ 8 * width ⌝ }
-{
-    core as usize * width
 }
 
 // Whether bit `x` is set of the row that starts at the word `start`.
@@ -73,8 +32,8 @@ pub(crate) fn set_bit(table: &mut [u64], start: usize, x: usize)
     table[start + x / 64] |= 1 << (x % 64);
 }
 
-// Joins each of `count` words from place `to` on with the word as far from place `from`.
-fn join_words(table: &mut [u64], to: usize, from: usize, count: usize)
+/// Joins each of `count` words from place `to` on with the word as far from place `from`.
+pub(crate) fn join_words(table: &mut [u64], to: usize, from: usize, count: usize)
     requires { ⌜ to + count ≤ length (now table) ⌝ ∗ ⌜ from + count ≤ length (now table) ⌝ }
     ensures { λ _. ⌜ now (table .exit) ≡ with-joined (now (table .entry)) to from count ⌝ }
 {
@@ -92,8 +51,8 @@ fn join_word(table: &mut [u64], to: usize, from: usize)
     table[to] |= word;
 }
 
-// Empties `count` words from place `start` on.
-fn empty_words(table: &mut [u64], start: usize, count: usize)
+/// Empties `count` words from place `start` on.
+pub(crate) fn empty_words(table: &mut [u64], start: usize, count: usize)
     requires { ⌜ start + count ≤ length (now table) ⌝ }
     ensures { λ _. ⌜ now (table .exit) ≡ with-emptied (now (table .entry)) start count ⌝ }
 {

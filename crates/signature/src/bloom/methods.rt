@@ -1,19 +1,18 @@
 //! How the Bloom signature is made, and what it does.
-ghost use Prim.Native.Nat.{ℕ, _≤_, _%_, _+_, _*_, _/_};
-ghost use lib.ListN.{length, getD};
+ghost use Prim.Native.Nat.{ℕ, _≤_, _<_, _+_, _/_};
+ghost use lib.ListN.{length, getD, replicate};
 ghost use mathlib.Core.Bool.{false};
 ghost use mathlib.Core.Path.{_≡_};
-ghost use Rattle.sets.specs.Fills.{word-fill, fill as fill-of};
-ghost use Rattle.sets.specs.Rows.{bits-put, rows-taken-in, rows-cleared, first-bit, second-bit};
-ghost use Rattle.sets.specs.Tables.{bloom-put};
-ghost use Rattle.signature.specs.Blooms.{fresh, bits, held, put as put-bloom, taken-in, cleared, bounded as is-bounded, puts as put-sentence, takes, clears-it};
+ghost use Rattle.sets.specs.Fills.{bits-from, set-count, word-fill, fill as fill-of};
+ghost use Rattle.sets.specs.Rows.{added, joined as joined-rows, emptied as emptied-rows, bits-put, rows-taken-in, rows-cleared, first-bit, second-bit};
+ghost use Rattle.sets.specs.Tables.{rows-of, with-bit};
+ghost use Rattle.signature.specs.Blooms.{fresh, bits, held, with-word, joined, emptied, put as put-bloom, taken-in, cleared, bounded as is-bounded, puts as put-sentence, takes, clears-it};
 use super::Bloom;
 use crate::interface::Signature;
-use crate::table::clear_row;
-use crate::table::empty_table;
+use crate::table::empty_words;
+use crate::table::join_words;
 use crate::table::row_has;
 use crate::table::set_bit;
-use crate::table::take_in_row;
 
 // The first bit of a word.
 fn first_bit(word: u16) -> usize
@@ -29,15 +28,13 @@ fn second_bit(word: u16) -> usize
     (word as usize / 16 + 7 * word as usize) % 256
 }
 
-// Sets the two bits of a word in a core's row. Outside the ranges the table stays.
-fn put_bits(table: &mut [u64], core: u8, word: u16)
-    requires { ⌜ length (now table) ≡ 32 ⌝ }
-    ensures { λ _. ⌜ now (table .exit) ≡ bloom-put (now (table .entry)) core word ⌝ }
+// Sets the two bits of a word in the row that starts at the word `start` of the table.
+fn set_both_bits(table: &mut [u64], start: usize, word: u16)
+    requires { ⌜ start + 4 ≤ length (now table) ⌝ }
+    ensures { λ _. ⌜ now (table .exit) ≡ with-bit (with-bit (now (table .entry)) start (first-bit word)) start (second-bit word) ⌝ }
 {
-    if core < 8 && word < 4096 {
-        set_bit(table, core as usize * 4, first_bit(word));
-        set_bit(table, core as usize * 4, second_bit(word));
-    }
+    set_bit(table, start, first_bit(word));
+    set_bit(table, start, second_bit(word));
 }
 
 // How many bits of a word of the table are set.
@@ -57,15 +54,21 @@ fn ones_from(table: &[u64], start: usize) -> u16
     low + ones_of(table[start + 2]) + ones_of(table[start + 3])
 }
 
+// How many bits of a core's row are set.
+fn row_fill(table: &[u64], core: u8) -> u16
+    requires { ⌜ core < 8 ⌝ ∗ ⌜ length (now table) ≡ 32 ⌝ }
+    ensures { λ r. ⌜ r ≡ set-count (bits-from (rows-of 4 (now (table .entry)) core) 0 256) ⌝ }
+{
+    ones_from(table, core as usize * 4)
+}
+
 impl Bloom {
     /// The Bloom signature whose bits are all 0.
     pub fn new() -> Bloom
         ensures value { λ r. ⌜ r ≡ fresh ⌝ }
         ensures empty { λ r. ⌜ ((core x : ℕ) → bits r core x ≡ false) ⌝ }
     {
-        Bloom {
-            words: empty_table::<32>(),
-        }
+        Bloom::of_zeros([0; 32])
     }
 
     /// How many of a core's 256 bits are set; 0 of a core above 7.
@@ -75,7 +78,44 @@ impl Bloom {
         if core >= 8 {
             return 0;
         }
-        ones_from(&self.words, core as usize * 4)
+        row_fill(&self.words, core)
+    }
+
+    // The signature of a table of zeros.
+    fn of_zeros(words: [u64; 32]) -> Bloom
+        requires { ⌜ words ≡ replicate 32 0 ⌝ }
+        ensures value { λ r. ⌜ r ≡ fresh ⌝ }
+        ensures empty { λ r. ⌜ ((core x : ℕ) → bits r core x ≡ false) ⌝ }
+    {
+        Bloom { words }
+    }
+
+    // Sets the two bits of a word in a core's row.
+    fn add(&mut self, core: u8, word: u16)
+        requires { ⌜ core < 8 ⌝ ∗ ⌜ word < 4096 ⌝ }
+        ensures after { λ _. ⌜ now (self .exit) ≡ with-word (now (self .entry)) core word ⌝ }
+        ensures exactly { λ _. ⌜ ((d x : ℕ) → bits (now (self .exit)) d x ≡ added (added (bits (now (self .entry))) core (first-bit word)) core (second-bit word) d x) ⌝ }
+    {
+        set_both_bits(&mut self.words, core as usize * 4, word);
+    }
+
+    // Joins a core's row with another core's.
+    fn join(&mut self, core: u8, other: u8)
+        requires { ⌜ core < 8 ⌝ ∗ ⌜ other < 8 ⌝ }
+        ensures after { λ _. ⌜ now (self .exit) ≡ joined (now (self .entry)) core other ⌝ }
+        ensures exactly { λ _. ⌜ ((d x : ℕ) → bits (now (self .exit)) d x ≡ joined-rows (bits (now (self .entry))) core other d x) ⌝ }
+    {
+        let from = other as usize * 4;
+        join_words(&mut self.words, core as usize * 4, from, 4);
+    }
+
+    // Empties a core's row.
+    fn empty(&mut self, core: u8)
+        requires { ⌜ core < 8 ⌝ }
+        ensures after { λ _. ⌜ now (self .exit) ≡ emptied (now (self .entry)) core ⌝ }
+        ensures exactly { λ _. ⌜ ((d x : ℕ) → bits (now (self .exit)) d x ≡ emptied-rows (bits (now (self .entry))) core d x) ⌝ }
+    {
+        empty_words(&mut self.words, core as usize * 4, 4);
     }
 }
 
@@ -109,7 +149,9 @@ pub impl Signature for Bloom as BloomSignature {
         ensures after { λ _. ⌜ now (self .exit) ≡ put-bloom (now (self .entry)) core word ⌝ }
         ensures exactly { λ _. ⌜ ((d x : ℕ) → bits (now (self .exit)) d x ≡ bits-put (bits (now (self .entry))) core word d x) ⌝ }
     {
-        put_bits(&mut self.words, core, word);
+        if core < 8 && word < 4096 {
+            self.add(core, word);
+        }
     }
 
     /// The bits of the other core's row are set in the core's row, and no other bit is altered.
@@ -117,7 +159,9 @@ pub impl Signature for Bloom as BloomSignature {
         ensures after { λ _. ⌜ now (self .exit) ≡ taken-in (now (self .entry)) core other ⌝ }
         ensures exactly { λ _. ⌜ ((d x : ℕ) → bits (now (self .exit)) d x ≡ rows-taken-in (bits (now (self .entry))) core other d x) ⌝ }
     {
-        take_in_row(&mut self.words, 4, core, other);
+        if core < 8 && other < 8 {
+            self.join(core, other);
+        }
     }
 
     /// No bit of the core's row is set afterwards, and no other bit is altered.
@@ -125,6 +169,8 @@ pub impl Signature for Bloom as BloomSignature {
         ensures after { λ _. ⌜ now (self .exit) ≡ cleared (now (self .entry)) core ⌝ }
         ensures exactly { λ _. ⌜ ((d x : ℕ) → bits (now (self .exit)) d x ≡ rows-cleared (bits (now (self .entry))) core d x) ⌝ }
     {
-        clear_row(&mut self.words, 4, core);
+        if core < 8 {
+            self.empty(core);
+        }
     }
 }

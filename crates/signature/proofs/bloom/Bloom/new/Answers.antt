@@ -1,6 +1,0 @@
-use Rattle.sets.proofs.Rows.{rows-empty}
-use Rattle.signature.proofs.Same.{bloom-fresh}
-use Rattle.signature.proofs.bloom.Bloom.new.Needs as need
-
-pub returns : need.returns
-returns c = record { value = bloom-fresh _ (c .empty-table .ensures); empty = rows-empty 4 32 _ (c .empty-table .ensures) }
