@@ -1,9 +1,9 @@
 -- Which bits a number has that is joined of two, or is a power of two. A number is divided by the power of the bit and its last
 -- digit looked at: division and remainder pass through a join. Assumes nothing.
-use mathlib.Core.Bool.{Bool, true, false, _||_}
+use mathlib.Core.Bool.{true, _||_}
 use mathlib.Core.Logic.{_⊎_, inl, inr, ⊎-elim}
 use mathlib.Core.Path.{_≡_, refl, sym, ap, subst, _∙_}
-use Prim.Native.Nat.{ℕ, zero, suc, _+_, _-_, _*_, _/_, _%_, _^_, _<_, _≤_}
+use Prim.Native.Nat.{ℕ, zero, suc, _+_, _-_, _*_, _/_, _%_, _^_, _<_}
 use native.Mathlib.Nat.{div-eq-of-lt, div-self, mul-mod-left, pow-suc}
 use native.Mathlib.Omega.{arith}
 use lib.Bits.{bitOr, or-zero-l}

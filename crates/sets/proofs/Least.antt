@@ -1,12 +1,12 @@
 -- The exact rows are the least that keep the sentences: where every signature's sets must hold a word, the exact ones gain it,
 -- and they gain no other. So they stay within the sets of any signature to which the same is done. Assumes nothing.
-use mathlib.Core.Bool.{Bool, true, false, not, _&&_, _||_}
-use mathlib.Core.Logic.{_⊎_, inl, inr, ⊎-elim}
-use mathlib.Core.Path.{_≡_, refl, sym, ap, subst, _∙_}
+use mathlib.Core.Bool.{true, not, _&&_}
+use mathlib.Core.Logic.{⊎-elim}
+use mathlib.Core.Path.{_≡_, sym, ap, subst, _∙_}
 use Prim.Native.Nat.{ℕ, _<_, _≤_}
 use native.Mathlib.Omega.{arith}
 use lib.Dec.{ltb, eqb}
-use Rattle.std.proofs.shelf.Tests.{cases-eq, cases-lt, eq-eqb, eqb-true, eqb-false, lt-ltb, le-ltb, and-parts, or-cases, not-true}
+use Rattle.std.proofs.shelf.Tests.{cases-eq, cases-lt, eqb-true, eqb-false, lt-ltb, le-ltb, and-parts, or-cases, not-true}
 use Rattle.sets.specs.Sentences.{Sets, In-range, Others-unaltered, Put, Taken-in, Cleared, Within}
 use Rattle.sets.specs.Rows.{in-range, added, joined, emptied, words-put, rows-taken-in, rows-cleared}
 use Rattle.sets.proofs.Ranges.{below-cases, below-true, below-false}

@@ -1,14 +1,13 @@
--- The two signatures of this crate keep the sentences: rows that gain or lose just what their definitions say do, and words
+-- The exact and the Bloom signature keep the sentences: rows that gain or lose just what their definitions say do, and words
 -- that are held by their two bits follow the bits, since a word is held where the bits are. Assumes nothing.
 use mathlib.Core.Bool.{Bool, true, false, not, cond, _&&_, _||_}
 use mathlib.Core.List.{List}
-use mathlib.Core.Logic.{_⊎_, inl, inr, ⊎-elim}
-use mathlib.Core.Path.{_≡_, refl, sym, ap, subst, _∙_}
-use Prim.Native.Nat.{ℕ, _+_, _*_, _/_, _<_, _≤_}
-use native.Mathlib.Omega.{arith}
+use mathlib.Core.Logic.{⊎-elim}
+use mathlib.Core.Path.{_≡_, refl, sym, ap, _∙_}
+use Prim.Native.Nat.{ℕ, _<_, _≤_}
 use lib.Dec.{ltb, eqb}
-use Rattle.std.proofs.shelf.Tests.{eq-eqb, ne-eqb, lt-ltb, le-ltb, cases-lt, and-from, and-parts, or-left, or-right, ltb-true, true≢false}
-use Rattle.sets.specs.Sentences.{Sets, In-range, Put, Taken-in, Cleared, Bounded, Unaltered}
+use Rattle.std.proofs.shelf.Tests.{eq-eqb, ne-eqb, lt-ltb, le-ltb, cases-lt, and-from, and-parts, or-left, or-right, ltb-true}
+use Rattle.sets.specs.Sentences.{Sets, In-range, Put, Taken-in, Cleared, Bounded}
 use Rattle.sets.specs.Rows.{in-range, added, joined, emptied, words-put, bits-put, rows-taken-in, rows-cleared, words-of-bits, first-bit, second-bit}
 use Rattle.sets.specs.Tables.{rows-of}
 use Rattle.sets.proofs.Ranges.{below-cases, below-true, below-false}

@@ -1,4 +1,4 @@
--- What the two signatures of this crate leave where the sentences leave it open: eight rows, one a core, of members, and what
+-- What the exact and the Bloom signature leave where the sentences leave it open: eight rows, one a core, of members, and what
 -- a row gains or loses. A row's members are words in the exact signature and bits in the Bloom signature. Assumes nothing.
 use mathlib.Core.Bool.{Bool, not, cond, _&&_, _||_}
 use Prim.Native.Nat.{ℕ, _+_, _*_, _/_, _%_}
@@ -33,10 +33,11 @@ rows-cleared rows core = cond (ltb core 8) (emptied rows core) rows
 abbrev pub words-put : Sets → ℕ → ℕ → Sets
 words-put rows core word = cond (in-range core word) (added rows core word) rows
 
--- the two bits of a word in the Bloom signature
+-- the first of the two bits of a word in the Bloom signature
 abbrev pub first-bit : ℕ → ℕ
 first-bit word = word % 256
 
+-- the second of the two bits of a word in the Bloom signature
 abbrev pub second-bit : ℕ → ℕ
 second-bit word = (word / 16 + 7 * word) % 256
 

@@ -1,6 +1,5 @@
 -- A list of changes made in turn, and the law that no word is lost: each change keeps the exact sets within those of any
 -- signature that keeps the sentences, so by induction the whole list does. Assumes nothing.
-use mathlib.Core.Bool.{Bool}
 use mathlib.Core.List.{List, [], _∷_}
 use mathlib.Core.Path.{_≡_, ap, sym, _∙_}
 use Prim.Native.Nat.{ℕ, _+_, _<_, _≤_}
