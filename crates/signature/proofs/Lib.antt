@@ -1,0 +1,3 @@
+-- Lemmas on signatures.
+pub mod Same
+pub mod Changes
