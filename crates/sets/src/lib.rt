@@ -1,0 +1,1 @@
+//! A stub that the real crate replaces.
