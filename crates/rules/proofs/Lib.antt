@@ -1,0 +1,6 @@
+-- The proofs of the laws of whole runs.
+pub mod Tables
+pub mod Members
+pub mod Memories
+pub mod Rows
+pub mod Settling
