@@ -4,3 +4,5 @@ pub mod Members
 pub mod Memories
 pub mod Rows
 pub mod Settling
+pub mod Accesses
+pub mod Guards
