@@ -6,3 +6,4 @@ pub mod Rows
 pub mod Settling
 pub mod Accesses
 pub mod Guards
+pub mod Invariant
