@@ -24,13 +24,14 @@ use Rattle.rules.specs.Refusals.{refusal, holds, shut-out, load-race, store-ra
 use Rattle.rules.specs.State.{Copy, valid, Lock, Ledger, Memory, State, Setting}
 use Rattle.rules.specs.Steps.{put, entered, changes, Changes, clear-all, answered, next-mark, again, begun, with-lock, acquired-by, released-to}
 use Rattle.rules.specs.Tables.{is, upd}
-use Rattle.rules.proofs.Accesses.{first-none, when-none, no-race, only-own, stored-in, stored-after-load, stored-before, stored-now, stored-after}
+use Rattle.rules.proofs.Accesses.{no-race, only-own, stored-in, stored-after-load, stored-before, stored-now, stored-after}
 use Rattle.rules.proofs.Guards.{Grow, Guarded, guard, guarded-grows, Cores, acquired-guarded, released-guarded, put-grows, same-grows, grow-on}
-use Rattle.rules.proofs.Members.{In}
+use Rattle.rules.proofs.Members.{In, in-parts}
 use Rattle.rules.proofs.Memories.{Sound, weakened}
 use Rattle.rules.proofs.Rows.{Loads, Keeps, load-loads, evict-keeps, store-keeps}
 use Rattle.rules.proofs.Settling.{settle-keeps, fade-keeps}
 use Rattle.rules.proofs.Tables.{upd-cases}
+use Rattle.rules.proofs.Unrefused.{load-passes, store-passes, acquire-passes, release-passes}
 
 -- what the proofs use of checked figures and the size
 pub record Fits (b : Setting) : Type 0 where
@@ -196,3 +197,107 @@ module _ (b : Setting) (fits : Fits b) (now : ℕ → Word) (s : State) (g g′ 
   settle-good same =
       let k = settle-keeps f now (Stale f l) (s .memory) (good .sound) in
       record { sound = k .sound; phased = same-phased same; long = rw (k .long) (good .long) }
+
+  -- ── locks: one lock changes, and its new guard's set holds what the old one's held ──
+
+  locks-phased : (lock : ℕ) (new : Lock) → Grow g g′ → ((w : ℕ) → Guarded (l .locks lock) g w → Guarded new g′ w) → Cores new → Phased f (with-lock l lock new) g′
+  locks-phased lock new grow guards ok =
+      record
+        { still = good .phased .still;
+          covered = λ w d k m e. at-lock w k (good .phased .covered w d k m e);
+          cores = λ k. ⊎-elim (λ p. rw (p .1) ok) (λ p. rw (p .1) (good .phased .cores k)) (upd-cases (l .locks) lock new k)
+        }
+    where
+      at-lock : (w k : ℕ) → Guarded (l .locks k) g w → Guarded (upd (l .locks) lock new k) g′ w
+      at-lock w k p =
+          ⊎-elim
+          (λ q. rw (q .1) (guards w (rw (q .0) at p)))
+          (λ q. rw (q .1) (guarded-grows (l .locks k) g g′ w grow p))
+          (upd-cases (l .locks) lock new k)
+
+  -- a change of a lock makes no copy stale
+  locks-sound : (lock : ℕ) (new : Lock) → Sound f now (Stale f (with-lock l lock new)) (s .memory)
+  locks-sound lock new =
+      weakened f now (Stale f l) (Stale f (with-lock l lock new)) (s .memory) (λ c w p. record { by = p .by; stores = p .stores; other = p .other }) (good .sound)
+
+  acquire-good : (core lock : ℕ) → core < f .cores → Changes (changes f l (call.Acquire core lock)) g g′ → Good b now (after b g s (call.Acquire core lock)) g′
+  acquire-good core lock in-cores ch =
+      let few = fits .cores in
+      let k = acquired-guarded (l .locks lock .holder) (l .locks lock) core g g′ refl (omega arith) (good .phased .cores lock) ch in
+      record
+        { sound = locks-sound lock (acquired-by (l .locks lock .holder) (l .locks lock) core);
+          phased = locks-phased lock (acquired-by (l .locks lock .holder) (l .locks lock) core) (k .0) (k .1) (cores-after (l .locks lock .holder) refl);
+          long = good .long
+        }
+    where
+      cores-after : (o : Option ℕ) → l .locks lock .holder ≡ o → Cores (acquired-by o (l .locks lock) core)
+      cores-after None e =
+          record
+            { holder = λ c h. let few = fits .cores in let who : core ≡ c = cc in omega (arith, in-cores);
+              queue = good .phased .cores lock .queue;
+              last = good .phased .cores lock .last
+            }
+      cores-after (Some d) e =
+          record
+            { holder = λ c h. good .phased .cores lock .holder c (e ∙ h);
+              queue = λ c h. ⊎-elim (λ p. good .phased .cores lock .queue c p) (λ p. let few = fits .cores in let who : c ≡ core = ⊎-elim (λ q. q) (λ q. absurd q) p in omega (arith, in-cores)) (in-parts c (l .locks lock .queue) (core ∷ []) h);
+              last = good .phased .cores lock .last
+            }
+
+  release-good : (core lock : ℕ) → core < f .cores → l .locks lock .holder ≡ Some core → Changes (changes f l (call.Release core lock)) g g′ → Good b now (after b g s (call.Release core lock)) g′
+  release-good core lock in-cores held ch =
+      let few = fits .cores in
+      let k = released-guarded (l .locks lock .queue) (l .locks lock) core g g′ refl held (omega arith) (good .phased .cores lock) ch in
+      record
+        { sound = locks-sound lock (released-to (l .locks lock .queue) core);
+          phased = locks-phased lock (released-to (l .locks lock .queue) core) (k .0) (k .1) (cores-after (l .locks lock .queue) refl);
+          long = good .long
+        }
+    where
+      cores-after : (q : List ℕ) → l .locks lock .queue ≡ q → Cores (released-to q core)
+      cores-after [] e =
+          record
+            { holder = λ c h. let z : _≡_ {A = ℕ} 0 1 = cc in omega arith;
+              queue = λ c h. absurd h;
+              last = λ c h. let few = fits .cores in let who : core ≡ c = cc in omega (arith, in-cores)
+            }
+      cores-after (next ∷ more) e =
+          record
+            { holder = λ c h. good .phased .cores lock .queue c (rw e (inl (let who : c ≡ next = cc in who)));
+              queue = λ c h. good .phased .cores lock .queue c (rw e (inr h));
+              last = λ c h. let few = fits .cores in let who : core ≡ c = cc in omega (arith, in-cores)
+            }
+
+  -- ── a new phase ──
+
+  phase-good : (plan : ℕ) → Good b now (after b g s (call.Phase plan)) g′
+  phase-good plan =
+      let k = fade-keeps f (l .plan) now (Stale f l) (Stale f (begun l plan)) (s .memory) (λ c w m p. good .phased .still w (p .by) m (p .stores)) (good .sound) in
+      record
+        { sound = k .sound;
+          phased =
+            record
+              { still = λ w d m e. both-ways false refl e;
+                covered = λ w d lock m e. absurd (both-ways false refl e);
+                cores = λ lock. record { holder = good .phased .cores lock .holder; queue = good .phased .cores lock .queue; last = λ c h. let z : _≡_ {A = ℕ} 0 1 = cc in omega arith }
+              };
+          long = rw (k .long) (good .long)
+        }
+
+  -- ── every call ──
+
+  pub accepted-good : (c : Call) → refusal b l c ≡ None → Changes (changes f l c) g g′ → Good b (now-after l now c) (after b g s c) g′
+  accepted-good (call.Load core word) e ch =
+      let p = load-passes b l core word e in
+      load-keeps core word (p .open-to) (p .unraced) ch
+  accepted-good (call.Store core word value) e ch =
+      let p = store-passes b l core word value e in
+      store-good core word value (p .in-cores) (p .in-size) (p .writable) (p .open-to) ch
+  accepted-good (call.Evict core word) e ch = evict-good core word ch
+  accepted-good (call.Acquire core lock) e ch =
+      acquire-good core lock (acquire-passes b l core lock e .0 .in-cores) ch
+  accepted-good (call.Release core lock) e ch =
+      let p = release-passes b l core lock e in
+      release-good core lock (p .0 .in-cores) (holds-tells (l .locks lock .holder) core (p .1)) ch
+  accepted-good (call.Phase plan) e ch = phase-good plan
+  accepted-good call.Settle e ch = settle-good ch

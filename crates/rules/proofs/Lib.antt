@@ -6,4 +6,5 @@ pub mod Rows
 pub mod Settling
 pub mod Accesses
 pub mod Guards
+pub mod Unrefused
 pub mod Invariant

@@ -42,3 +42,7 @@ pub in-places : (f : Five) (core slot : ℕ) → core < f .cores → slot < f .s
 in-places f core slot c s =
     in-joined (λ k. map (λ i. record { core = k; slot = i }) (below (f .slots))) core (record { core = core; slot = slot }) (below (f .cores)) (in-below core (f .cores) c)
     (in-map (λ i. record { core = core; slot = i }) slot (below (f .slots)) (in-below slot (f .slots) s))
+
+pub in-parts : {X : Type 0} (x : X) (xs ys : List X) → In x (xs ++ ys) → In x xs ⊎ In x ys
+in-parts x [] ys h = inr h
+in-parts x (y ∷ xs) ys h = ⊎-elim (λ e. inl (inl e)) (λ r. ⊎-elim (λ p. inl (inr p)) (λ q. inr q) (in-parts x xs ys r)) h
