@@ -8,3 +8,4 @@ pub mod Accesses
 pub mod Guards
 pub mod Unrefused
 pub mod Invariant
+pub mod Walking
