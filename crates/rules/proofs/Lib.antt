@@ -9,3 +9,5 @@ pub mod Guards
 pub mod Unrefused
 pub mod Invariant
 pub mod Walking
+pub mod Opening
+pub mod Fresh
