@@ -29,7 +29,7 @@ use Rattle.rules.specs.Steps.{step, outcome, answered, again}
 use Rattle.rules.proofs.Invariant.{Fits, load-is-fresh}
 use Rattle.rules.proofs.Opening.{fits, opening-moment}
 use Rattle.rules.proofs.Unrefused.{load-passes}
-use Rattle.rules.proofs.Walking.{Moment, Reached, walk, answered-accepted}
+use Rattle.rules.proofs.Walking.{Moment, Reached, walk, answered-accepted, same-some}
 
 -- the moment before an event of a run
 pub reached : (r : Ran) (before rest : History) → r .history ≡ before ++ rest → Reached (setting (r .figures) (r .page)) (fits (r .figures) (r .page) (r .passed)) (old-word r) before rest (r .final)
@@ -51,9 +51,6 @@ refusals-told r before e after split =
     ap refused-with (p .chain .0)
     ∙ (step-refused (setting (r .figures) (r .page)) (p .sets) (p .state) (e .call)
        ∙ ap (λ (l : Ledger). refusal (setting (r .figures) (r .page)) l (e .call)) (p .moment .told .ledger))
-
-pub same-some : {X : Type 0} (x y : X) → Some x ≡ Some y → x ≡ y
-same-some x y e = cc
 
 load-of-tells : (c : Call) (w : Wanted) → load-of c ≡ Some w → c ≡ call.Load (w .core) (w .word)
 load-of-tells (call.Load core word) w e =

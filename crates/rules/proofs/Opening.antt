@@ -80,5 +80,5 @@ module _ (f : Five) (page : List Word) (ok : checked f ≡ Ok f) where
       record
         { now = λ w. getD (opened (size-of f page) page) w blank;
           good = opening-good g;
-          told = record { ledger = refl; counts = λ w c. refl; fresh = λ w l. opened-at (size-of f page) page w l }
+          told = record { ledger = refl; counts = λ w c. refl; fresh = λ w l. opened-at (size-of f page) page w l; lawful = λ w s e. grind arith }
         }

@@ -21,7 +21,7 @@ use Rattle.call.specs.declared.call.Call.{Call}
 use Rattle.call.specs.declared.call.Call.the-variants as call
 use Rattle.call.specs.declared.refusal.Refusal.{Refusal}
 use Rattle.sets.specs.Sentences.{Sets}
-use Rattle.word.specs.Lawful.{mark-of}
+use Rattle.word.specs.Lawful.{Stores, mark-of}
 use Rattle.word.specs.Marks.{number}
 use Rattle.word.specs.declared.word.Word.{Word}
 use Rattle.word.proofs.Marks.{stores-lawful, number-mark-at}
@@ -40,6 +40,9 @@ use Rattle.rules.proofs.Unrefused.{store-passes}
 pub folded-push : {A B : Type 0} (f : B → A → B) (b : B) (xs : List A) (x : A) → folded f b (xs ++ (x ∷ [])) ≡ f (folded f b xs) x
 folded-push f b [] x = refl
 folded-push f b (y ∷ xs) x = folded-push f (f b y) xs x
+
+pub same-some : {X : Type 0} (x y : X) → Some x ≡ Some y → x ≡ y
+same-some x y e = cc
 
 -- an accepted call's answer is no refusal
 pub answered-accepted : (b : Setting) (g : Sets) (s : State) (c : Call) → refused-with (answered b g s c .answer) ≡ None
@@ -63,6 +66,7 @@ pub record Told (b : Setting) (old now : ℕ → Word) (l : Ledger) (h : History
   pub ledger : l ≡ ledger-of h
   pub counts : (w c : ℕ) → tracked w h .counts c ≡ l .counts c
   pub fresh : (w : ℕ) → w < b .size → Fresh (last-store w h) (old w) (now w)
+  pub lawful : (w : ℕ) (s : Told-store) → last-store w h ≡ Some s → Stores (s .core) (s .count) × (s .count ≤ l .counts (s .core))
 
 module _ (b : Setting) (fits : Fits b) (old : ℕ → Word) where
   -- ── one step ──
@@ -99,7 +103,8 @@ module _ (b : Setting) (fits : Fits b) (old : ℕ → Word) where
               record
                 { ledger = m .told .ledger ∙ sym (folded-push entered-by _ h e ∙ ap (λ (x : Answer). entered-by (ledger-of h) (record { call = e .call; answer = x })) a);
                   counts = λ w c. ap (λ (t : Tracked). t .counts c) (unmoved w) ∙ m .told .counts w c;
-                  fresh = λ w p. subst (λ (t : Tracked). Fresh (t .last) (old w) (now w)) (sym (unmoved w)) (m .told .fresh w p)
+                  fresh = λ w p. subst (λ (t : Tracked). Fresh (t .last) (old w) (now w)) (sym (unmoved w)) (m .told .fresh w p);
+                  lawful = λ w t p. m .told .lawful w t (ap (λ (k : Tracked). k .last) (sym (unmoved w)) ∙ p)
                 }
           }
       where
@@ -118,7 +123,8 @@ module _ (b : Setting) (fits : Fits b) (old : ℕ → Word) where
         record
           { ledger = entered-told a;
             counts = λ w c. ap (λ (t : Tracked). t .counts c) (unmoved w) ∙ (m .told .counts w c ∙ counts-kept (e .call) none c);
-            fresh = λ w p. subst (λ (t : Tracked). Fresh (t .last) (old w) (now w)) (sym (unmoved w)) (m .told .fresh w p)
+            fresh = λ w p. subst (λ (t : Tracked). Fresh (t .last) (old w) (now w)) (sym (unmoved w)) (m .told .fresh w p);
+            lawful = λ w t p. let old-one = m .told .lawful w t (ap (λ (k : Tracked). k .last) (sym (unmoved w)) ∙ p) in (old-one .0, rw (sym (counts-kept (e .call) none (t .core))) (old-one .1))
           }
       where
         unmoved : (w : ℕ) → tracked w (h ++ (e ∷ [])) ≡ tracked w h
@@ -139,7 +145,8 @@ module _ (b : Setting) (fits : Fits b) (old : ℕ → Word) where
         record
           { ledger = subst (λ (c : Call). entered l c ≡ ledger-of (h ++ (e ∷ []))) is-store (entered-told a);
             counts = λ w c. ap (λ (t : Tracked). t .counts c) (moved w) ∙ counts-moved w c;
-            fresh = λ w p. subst (λ (t : Tracked). Fresh (t .last) (old w) (upd now word new w)) (sym (moved w)) (fresh-moved w p)
+            fresh = λ w p. subst (λ (t : Tracked). Fresh (t .last) (old w) (upd now word new w)) (sym (moved w)) (fresh-moved w p);
+            lawful = λ w t p. lawful-moved w t (ap (λ (k : Tracked). k .last) (sym (moved w)) ∙ p)
           }
       where
         new : Word
@@ -153,6 +160,23 @@ module _ (b : Setting) (fits : Fits b) (old : ℕ → Word) where
         counts-moved : (w c : ℕ) → upd (tracked w h .counts) core (tracked w h .counts core + 1) c ≡ upd (l .counts) core (l .counts core + 1) c
         counts-moved w c =
             grind (arith, upd-cases (tracked w h .counts) core (tracked w h .counts core + 1) c, upd-cases (l .counts) core (l .counts core + 1) c, m .told .counts w c, m .told .counts w core)
+
+        lawful-moved : (w : ℕ) (t : Told-store) → cond (eqb word w) (Some (record { core = core; count = tracked w h .counts core + 1; value = value })) (last-store w h) ≡ Some t → Stores (t .core) (t .count) × (t .count ≤ upd (l .counts) core (l .counts core + 1) (t .core))
+        lawful-moved w t p = go (eqb word w) p
+          where
+            alike : tracked w h .counts core ≡ l .counts core
+            alike = m .told .counts w core
+
+            go : (v : Bool) → cond v (Some (record { core = core; count = tracked w h .counts core + 1; value = value })) (last-store w h) ≡ Some t → Stores (t .core) (t .count) × (t .count ≤ upd (l .counts) core (l .counts core + 1) (t .core))
+            go true q =
+                let same = same-some _ t q in
+                let who : core ≡ t .core = ap (λ (k : Told-store). k .core) same in
+                let many : tracked w h .counts core + 1 ≡ t .count = ap (λ (k : Told-store). k .count) same in
+                ((omega arith, omega arith, omega arith), grind (arith, upd-cases (l .counts) core (l .counts core + 1) (t .core), who, many, alike))
+            go false q =
+                let old-one = m .told .lawful w t q in
+                let few = old-one .1 in
+                (old-one .0, grind (arith, upd-cases (l .counts) core (l .counts core + 1) (t .core), few))
 
         fresh-moved : (w : ℕ) → w < b .size → Fresh (cond (eqb word w) (Some (record { core = core; count = tracked w h .counts core + 1; value = value })) (last-store w h)) (old w) (upd now word new w)
         fresh-moved w p = go (eqb word w) refl
