@@ -11,3 +11,4 @@ pub mod Invariant
 pub mod Walking
 pub mod Opening
 pub mod Fresh
+pub mod Equal
