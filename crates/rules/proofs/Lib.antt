@@ -12,3 +12,4 @@ pub mod Walking
 pub mod Opening
 pub mod Fresh
 pub mod Equal
+pub mod Settled
