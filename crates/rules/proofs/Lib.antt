@@ -13,3 +13,5 @@ pub mod Opening
 pub mod Fresh
 pub mod Equal
 pub mod Settled
+pub mod Splits
+pub mod Turns
