@@ -15,3 +15,4 @@ pub mod Equal
 pub mod Settled
 pub mod Splits
 pub mod Turns
+pub mod Holders
