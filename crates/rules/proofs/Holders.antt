@@ -38,7 +38,7 @@ abbrev pub times : ℕ → List ℕ → ℕ
 times c [] = 0
 times c (x ∷ xs) = cond {A = ℕ} (eqb x c) 1 0 + times c xs
 
-times-append : (c : ℕ) (xs ys : List ℕ) → times c (xs ++ ys) ≡ times c xs + times c ys
+pub times-append : (c : ℕ) (xs ys : List ℕ) → times c (xs ++ ys) ≡ times c xs + times c ys
 times-append c [] ys = omega arith
 times-append c (x ∷ xs) ys = let more = times-append c xs ys in omega arith
 

@@ -16,3 +16,4 @@ pub mod Settled
 pub mod Splits
 pub mod Turns
 pub mod Holders
+pub mod Own
