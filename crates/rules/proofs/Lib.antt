@@ -17,3 +17,4 @@ pub mod Splits
 pub mod Turns
 pub mod Holders
 pub mod Own
+pub mod Order

@@ -127,7 +127,7 @@ stores-own w c h ok = stores-on w c (record { counts = λ _. 0; last = None }) h
 
 -- ── plans ──
 
-abbrev plans-in : Option ℕ → List ℕ
+abbrev pub plans-in : Option ℕ → List ℕ
 plans-in None = []
 plans-in (Some plan) = plan ∷ []
 
