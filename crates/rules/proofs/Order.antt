@@ -166,3 +166,118 @@ module _ (r q : Ran) (order : Same-order r q) (S T : Spot (r .history)) (S′ T�
       let s-same : length (calls-of (a .core) (S .before)) ≡ length (calls-of (a .core) (S′ .before)) = ap (λ (c : ℕ). length (calls-of c (S .before))) (sym who) ∙ (ap length (twin-s .place) ∙ ap (λ (c : ℕ). length (calls-of c (S′ .before))) who) in
       let t-same = ap length (twin-t .place) in
       omega arith
+
+  abbrev br : Setting
+  br = setting (r .figures) (r .page)
+
+  abbrev bq : Setting
+  bq = setting (q .figures) (q .page)
+
+  ok-r : Legal br (r .history)
+  ok-r = legal r (order .all-accepted)
+
+  ok-q : Legal bq (q .history)
+  ok-q = legal q (order .others-accepted)
+
+  -- the calls before a spot were accepted
+  before-ok : (b : Setting) (h : History) → Legal b h → (p : Spot h) → All-accepted (p .before)
+  before-ok b h ok p =
+      accepted-front (p .before) (p .event ∷ p .after)
+      (subst All-accepted (p .stands) (all-accepted h (ok .accepts)))
+
+  module _ (M′ : History) (late : S′ .before ≡ T′ .before ++ (T′ .event ∷ M′)) (apart : s .core ≡ a .core → ⊥) where
+    -- ── no phase call lies between the two, in either run ──
+
+    s-plans : plans-of (S .before) ≡ plans-of (S′ .before)
+    s-plans = plans-own (s .core) (S .before) ∙ (ap plans (twin-s .place) ∙ sym (plans-own (s .core) (S′ .before)))
+
+    t-plans : plans-of (T .before) ≡ plans-of (T′ .before)
+    t-plans = plans-own (a .core) (T .before) ∙ (ap plans (twin-t .place) ∙ sym (plans-own (a .core) (T′ .before)))
+
+    no-plans : plans-of (S .event ∷ M) ≡ []
+    no-plans =
+        let there = ap length (ap plans-of late ∙ joined-append _ (T′ .before) (T′ .event ∷ M′)) ∙ length-append (plans-of (T′ .before)) (plans-of (T′ .event ∷ M′)) in
+        let here = ap plans-of first ∙ joined-append _ (S .before) (S .event ∷ M) in
+        let s-len = ap length s-plans in
+        let t-len = ap length t-plans in
+        let h-len = ap length here in
+        no-more (plans-of (S .before)) (plans-of (S .event ∷ M)) (omega arith)
+
+    one-plans : plans-of (T .before) ≡ plans-of (S .before)
+    one-plans =
+        ap plans-of first ∙ (joined-append _ (S .before) (S .event ∷ M) ∙ (ap (λ (k : List ℕ). plans-of (S .before) ++ k) no-plans ∙ append-nil (plans-of (S .before))))
+
+    -- the plan in force at the four moments
+    abbrev plan : ℕ
+    plan = last-plan 0 (plans-of (S .before))
+
+    plan-s : ledger-of (S .before) .plan ≡ plan
+    plan-s = plan-told (S .before) (before-ok br (r .history) ok-r S)
+
+    plan-t : ledger-of (T .before) .plan ≡ plan
+    plan-t = plan-told (T .before) (before-ok br (r .history) ok-r T) ∙ ap (last-plan 0) one-plans
+
+    plan-s′ : ledger-of (S′ .before) .plan ≡ plan
+    plan-s′ = plan-told (S′ .before) (before-ok bq (q .history) ok-q S′) ∙ ap (last-plan 0) (sym s-plans)
+
+    plan-t′ : ledger-of (T′ .before) .plan ≡ plan
+    plan-t′ = plan-told (T′ .before) (before-ok bq (q .history) ok-q T′) ∙ ap (last-plan 0) (sym t-plans ∙ one-plans)
+
+    -- what the four accesses tell
+    at-s : Accesses (r .figures) (ledger-of (S .before)) (s .core) (s .word)
+    at-s = accesses br (ledger-of (S .before)) (S .event .call) (record { core = s .core; word = s .word }) (store-accesses (S .event .call) s stores) (ok-r .passes (S .before) (S .event) (S .after) (S .stands))
+
+    at-t : Accesses (r .figures) (ledger-of (T .before)) (a .core) (a .word)
+    at-t = accesses br (ledger-of (T .before)) (T .event .call) a uses (ok-r .passes (T .before) (T .event) (T .after) (T .stands))
+
+    at-s′ : Accesses (q .figures) (ledger-of (S′ .before)) (s .core) (s .word)
+    at-s′ = accesses bq (ledger-of (S′ .before)) (S′ .event .call) (record { core = s .core; word = s .word }) (store-accesses (S′ .event .call) s (ap store-of (sym (twin-s .call)) ∙ stores)) (ok-q .passes (S′ .before) (S′ .event) (S′ .after) (S′ .stands))
+
+    at-t′ : Accesses (q .figures) (ledger-of (T′ .before)) (a .core) (a .word)
+    at-t′ = accesses bq (ledger-of (T′ .before)) (T′ .event .call) a (ap access-of (sym (twin-t .call)) ∙ uses) (ok-q .passes (T′ .before) (T′ .event) (T′ .after) (T′ .stands))
+
+    abbrev mode : Mode
+    mode = mode-of (r .figures) plan (a .word)
+
+    mode-s : mode-of (r .figures) (ledger-of (S .before) .plan) (s .word) ≡ mode
+    mode-s = λ i. mode-of (r .figures) (plan-s i) (one-word i)
+
+    mode-t : mode-of (r .figures) (ledger-of (T .before) .plan) (a .word) ≡ mode
+    mode-t = λ i. mode-of (r .figures) (plan-t i) (a .word)
+
+    mode-s′ : mode-of (q .figures) (ledger-of (S′ .before) .plan) (s .word) ≡ mode
+    mode-s′ = λ i. mode-of (sym (order .figures) i) (plan-s′ i) (one-word i)
+
+    mode-t′ : mode-of (q .figures) (ledger-of (T′ .before) .plan) (a .word) ≡ mode
+    mode-t′ = λ i. mode-of (sym (order .figures) i) (plan-t′ i) (a .word)
+
+    -- a read-only strip takes no store
+    not-read-only : mode ≡ read-only → ⊥
+    not-read-only m =
+        let k = store-tells (S .event .call) s stores in
+        let p = store-passes br (ledger-of (S .before)) (s .core) (s .word) (s .value) (sym (ap (refusal br (ledger-of (S .before))) k) ∙ ok-r .passes (S .before) (S .event) (S .after) (S .stands)) in
+        both-ways (is-read-only (mode-of (r .figures) (ledger-of (S .before) .plan) (s .word))) (p .writable) (ap is-read-only (mode-s ∙ m))
+
+    -- in a written strip the first run has a race
+    not-written : mode ≡ written → ⊥
+    not-written m = apart (only-own (ledger-of (T .before) .accesses) (a .core) (a .word) (s .core) (at-t .alone (mode-t ∙ m)) among)
+      where
+        k : S .event .call ≡ call.Store (s .core) (s .word) (s .value)
+        k = store-tells (S .event .call) s stores
+
+        entered-here : entered-by (ledger-of (S .before)) (S .event) ≡ entered (ledger-of (S .before)) (call.Store (s .core) (s .word) (s .value))
+        entered-here =
+            cond-true (accepted (S .event)) (entered (ledger-of (S .before)) (S .event .call)) (ledger-of (S .before)) (ap (λ (o : Option Refusal). not (isSome o)) (ok-r .accepts (S .before) (S .event) (S .after) (S .stands)))
+            ∙ ap (entered (ledger-of (S .before))) k
+
+        in-s : stored-in (entered-by (ledger-of (S .before)) (S .event) .accesses) (s .core) (a .word) ≡ true
+        in-s =
+            ap (λ (l : Ledger). stored-in (l .accesses) (s .core) (a .word)) entered-here
+            ∙ (ap (λ (w : ℕ). stored-in (entered (ledger-of (S .before)) (call.Store (s .core) (s .word) (s .value)) .accesses) (s .core) w) (sym one-word)
+               ∙ stored-now (ledger-of (S .before) .accesses) (s .core) (s .word))
+
+        among : stored-in (ledger-of (T .before) .accesses) (s .core) (a .word) ≡ true
+        among =
+            ap (λ (h : History). stored-in (ledger-of h .accesses) (s .core) (a .word)) first
+            ∙ (ap (λ (l : Ledger). stored-in (l .accesses) (s .core) (a .word)) (folded-append entered-by _ (S .before) (S .event ∷ M))
+               ∙ stays-stored (s .core) (a .word) (entered-by (ledger-of (S .before)) (S .event)) M (both-empty (plans-in (plan-of (S .event .call))) (plans-of M) no-plans .1) in-s)
