@@ -37,6 +37,7 @@ use Rattle.rules.proofs.Own.{All-accepted, all-accepted, accepted-front, own-r
 use Rattle.rules.proofs.Splits.{Spot, Placed, earlier, same, later, two-splits, joined-append}
 use Rattle.rules.proofs.Turns.{Legal, legal, Turn, turn, line}
 use Rattle.rules.proofs.Unrefused.{load-passes, store-passes}
+use Rattle.rules.proofs.Walking.{same-some}
 
 -- ── accesses ──
 
@@ -155,6 +156,23 @@ longer c a e m t =
 no-more : (xs ys : List ℕ) → length (xs ++ ys) ≤ length xs → ys ≡ []
 no-more xs ys l = let whole = length-append xs ys in nil-from-length ys (omega arith)
 
+-- the calls before a spot were accepted
+pub before-ok : (h : History) → ((before : History) (e : Event) (after : History) → h ≡ before ++ (e ∷ after) → refused-with (e .answer) ≡ None) → (p : Spot h) → All-accepted (p .before)
+before-ok h ok p =
+    accepted-front (p .before) (p .event ∷ p .after) (subst All-accepted (p .stands) (all-accepted h ok))
+
+-- a core that holds a lock where it has made the same calls: the same cores have released the lock before
+pub same-releasers : (r q : Ran) → Same-order r q → (c lock : ℕ) (X : Spot (r .history)) (Y : Spot (q .history)) → calls-of c (X .before) ≡ calls-of c (Y .before) → ledger-of (X .before) .locks lock .holder ≡ Some c → ledger-of (Y .before) .locks lock .holder ≡ Some c → releasers lock (X .before) ≡ releasers lock (Y .before)
+same-releasers r q order c lock X Y place holds-x holds-y =
+    let ok-r = legal r (order .all-accepted) in
+    let ok-q = legal q (order .others-accepted) in
+    let one = holders-begin (setting (r .figures) (r .page)) (r .history) ok-r lock c (X .before) (X .event ∷ X .after) (X .stands) holds-x in
+    let two = holders-begin (setting (q .figures) (q .page)) (q .history) ok-q lock c (Y .before) (Y .event ∷ Y .after) (Y .stands) holds-y in
+    same-beginning c (releasers lock (X .before)) (releasers lock (Y .before)) (one .0) (two .0)
+    (sym (one .1) ∙ (order .holders lock ∙ two .1))
+    (releases-own c lock (X .before) (before-ok (r .history) (ok-r .accepts) X)
+     ∙ (ap (own-releases c lock) place ∙ sym (releases-own c lock (Y .before) (before-ok (q .history) (ok-q .accepts) Y))))
+
 module _ (r q : Ran) (order : Same-order r q) (S T : Spot (r .history)) (S′ T′ : Spot (q .history)) (s : Written) (a : Wanted) (stores : store-of (S .event .call) ≡ Some s) (uses : access-of (T .event .call) ≡ Some a) (one-word : s .word ≡ a .word) (twin-s : Twins (s .core) S S′) (twin-t : Twins (a .core) T T′) (M : History) (first : T .before ≡ S .before ++ (S .event ∷ M)) where
   stores-concerns : concerns (s .core) (S .event .call) ≡ true
   stores-concerns = access-concerns (S .event .call) (record { core = s .core; word = s .word }) (store-accesses (S .event .call) s stores)
@@ -178,12 +196,6 @@ module _ (r q : Ran) (order : Same-order r q) (S T : Spot (r .history)) (S′ T�
 
   ok-q : Legal bq (q .history)
   ok-q = legal q (order .others-accepted)
-
-  -- the calls before a spot were accepted
-  before-ok : (b : Setting) (h : History) → Legal b h → (p : Spot h) → All-accepted (p .before)
-  before-ok b h ok p =
-      accepted-front (p .before) (p .event ∷ p .after)
-      (subst All-accepted (p .stands) (all-accepted h (ok .accepts)))
 
   module _ (M′ : History) (late : S′ .before ≡ T′ .before ++ (T′ .event ∷ M′)) (apart : s .core ≡ a .core → ⊥) where
     -- ── no phase call lies between the two, in either run ──
@@ -212,16 +224,16 @@ module _ (r q : Ran) (order : Same-order r q) (S T : Spot (r .history)) (S′ T�
     plan = last-plan 0 (plans-of (S .before))
 
     plan-s : ledger-of (S .before) .plan ≡ plan
-    plan-s = plan-told (S .before) (before-ok br (r .history) ok-r S)
+    plan-s = plan-told (S .before) (before-ok (r .history) (ok-r .accepts) S)
 
     plan-t : ledger-of (T .before) .plan ≡ plan
-    plan-t = plan-told (T .before) (before-ok br (r .history) ok-r T) ∙ ap (last-plan 0) one-plans
+    plan-t = plan-told (T .before) (before-ok (r .history) (ok-r .accepts) T) ∙ ap (last-plan 0) one-plans
 
     plan-s′ : ledger-of (S′ .before) .plan ≡ plan
-    plan-s′ = plan-told (S′ .before) (before-ok bq (q .history) ok-q S′) ∙ ap (last-plan 0) (sym s-plans)
+    plan-s′ = plan-told (S′ .before) (before-ok (q .history) (ok-q .accepts) S′) ∙ ap (last-plan 0) (sym s-plans)
 
     plan-t′ : ledger-of (T′ .before) .plan ≡ plan
-    plan-t′ = plan-told (T′ .before) (before-ok bq (q .history) ok-q T′) ∙ ap (last-plan 0) (sym t-plans ∙ one-plans)
+    plan-t′ = plan-told (T′ .before) (before-ok (q .history) (ok-q .accepts) T′) ∙ ap (last-plan 0) (sym t-plans ∙ one-plans)
 
     -- what the four accesses tell
     at-s : Accesses (r .figures) (ledger-of (S .before)) (s .core) (s .word)
@@ -281,3 +293,69 @@ module _ (r q : Ran) (order : Same-order r q) (S T : Spot (r .history)) (S′ T�
             ap (λ (h : History). stored-in (ledger-of h .accesses) (s .core) (a .word)) first
             ∙ (ap (λ (l : Ledger). stored-in (l .accesses) (s .core) (a .word)) (folded-append entered-by _ (S .before) (S .event ∷ M))
                ∙ stays-stored (s .core) (a .word) (entered-by (ledger-of (S .before)) (S .event)) M (both-empty (plans-in (plan-of (S .event .call))) (plans-of M) no-plans .1) in-s)
+
+    -- in a locked strip both accesses would be by the one holder
+    not-locked : (lock : ℕ) → mode ≡ locked lock → ⊥
+    not-locked lock m = apart one-holder
+      where
+        holds-s : ledger-of (S .before) .locks lock .holder ≡ Some (s .core)
+        holds-s = at-s .by-holder lock (mode-s ∙ m)
+
+        holds-t : ledger-of (T .before) .locks lock .holder ≡ Some (a .core)
+        holds-t = at-t .by-holder lock (mode-t ∙ m)
+
+        s-releasers : releasers lock (S .before) ≡ releasers lock (S′ .before)
+        s-releasers = same-releasers r q order (s .core) lock S S′ (twin-s .place) holds-s (at-s′ .by-holder lock (mode-s′ ∙ m))
+
+        t-releasers : releasers lock (T .before) ≡ releasers lock (T′ .before)
+        t-releasers = same-releasers r q order (a .core) lock T T′ (twin-t .place) holds-t (at-t′ .by-holder lock (mode-t′ ∙ m))
+
+        none-between : releasers lock (S .event ∷ M) ≡ []
+        none-between =
+            let there = ap length (ap (releasers lock) late ∙ joined-append _ (T′ .before) (T′ .event ∷ M′)) ∙ length-append (releasers lock (T′ .before)) (releasers lock (T′ .event ∷ M′)) in
+            let here = ap length (ap (releasers lock) first ∙ joined-append _ (S .before) (S .event ∷ M)) in
+            let s-len = ap length s-releasers in
+            let t-len = ap length t-releasers in
+            no-more (releasers lock (S .before)) (releasers lock (S .event ∷ M)) (omega arith)
+
+        one-releasers : releasers lock (T .before) ≡ releasers lock (S .before)
+        one-releasers =
+            ap (releasers lock) first ∙ (joined-append _ (S .before) (S .event ∷ M) ∙ (ap (λ (k : List ℕ). releasers lock (S .before) ++ k) none-between ∙ append-nil (releasers lock (S .before))))
+
+        one-holder : s .core ≡ a .core
+        one-holder =
+            let turn-s = turn br (r .history) ok-r lock (S .before) (S .event ∷ S .after) (S .stands) in
+            let turn-t = turn br (r .history) ok-r lock (T .before) (T .event ∷ T .after) (T .stands) in
+            let queue-s = ledger-of (S .before) .locks lock .queue in
+            let queue-t = ledger-of (T .before) .locks lock .queue in
+            let got-s : acquirers lock (S .before) ≡ releasers lock (S .before) ++ (s .core ∷ queue-s) = turn-s .turns ∙ ap (λ (o : Option ℕ). releasers lock (S .before) ++ line (record { holder = o; queue = queue-s; last = None })) holds-s in
+            let got-t : acquirers lock (T .before) ≡ releasers lock (T .before) ++ (a .core ∷ queue-t) = turn-t .turns ∙ ap (λ (o : Option ℕ). releasers lock (T .before) ++ line (record { holder = o; queue = queue-t; last = None })) holds-t in
+            let from-s : acquirers lock (T .before) ≡ releasers lock (S .before) ++ (s .core ∷ (queue-s ++ acquirers lock (S .event ∷ M))) = ap (acquirers lock) first ∙ (joined-append _ (S .before) (S .event ∷ M) ∙ (ap (λ (k : List ℕ). k ++ acquirers lock (S .event ∷ M)) got-s ∙ append-assoc (releasers lock (S .before)) (s .core ∷ queue-s) (acquirers lock (S .event ∷ M)))) in
+            let from-t : acquirers lock (T .before) ≡ releasers lock (S .before) ++ (a .core ∷ queue-t) = got-t ∙ ap (λ (k : List ℕ). k ++ (a .core ∷ queue-t)) one-releasers in
+            let tails = append-cancel-left (releasers lock (S .before)) (s .core ∷ (queue-s ++ acquirers lock (S .event ∷ M))) (a .core ∷ queue-t) (sym from-s ∙ from-t) in
+            let eq : s .core ≡ a .core = cc in
+            eq
+
+    not-late : ⊥
+    not-late = go mode refl
+      where
+        go : (m : Mode) → mode ≡ m → ⊥
+        go read-only e = not-read-only e
+        go written e = not-written e
+        go (locked lock) e = not-locked lock e
+
+  pub keeps-order : (M′ : History) × (T′ .before ≡ S′ .before ++ (S′ .event ∷ M′))
+  keeps-order = go (two-splits (S′ .before) (S′ .event) (S′ .after) (T′ .before) (T′ .event) (T′ .after) (sym (S′ .stands) ∙ T′ .stands))
+    where
+      go : Placed (S′ .before) (S′ .event) (T′ .before) (T′ .event) → (M′ : History) × (T′ .before ≡ S′ .before ++ (S′ .event ∷ M′))
+      go (earlier M′ e) = (M′, e)
+      go (same e x) =
+          let one-call : S .event .call ≡ T .event .call = twin-s .call ∙ (ap (λ (k : Event). k .call) x ∙ sym (twin-t .call)) in
+          let both = same-some (record { core = s .core; word = s .word }) a (sym (store-accesses (S .event .call) s stores) ∙ (ap access-of one-call ∙ uses)) in
+          let equal = ap (λ (h : History). length (calls-of (a .core) h)) e in
+          absurd (not-one-core (ap (λ (k : Wanted). k .core) both) (omega arith))
+      go (later M′ e) =
+          ⊎-elim
+          (λ who. absurd (not-one-core who (let grown : length (calls-of (a .core) (T′ .before)) < length (calls-of (a .core) (S′ .before)) = rw e (longer (a .core) (T′ .before) (T′ .event) M′ (access-concerns (T′ .event .call) a (ap access-of (sym (twin-t .call)) ∙ uses))) in omega arith)))
+          (λ apart. absurd (not-late M′ e apart))
+          (cases-eq (s .core) (a .core))
