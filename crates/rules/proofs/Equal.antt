@@ -39,7 +39,7 @@ fresh-same None old x y p q = p ∙ sym q
 fresh-same (Some s) old x y p q = same-word x y (p .0 ∙ sym (q .0)) (p .1 ∙ sym (q .1))
 
 -- the tracking of a word from some moment on
-abbrev track-on : ℕ → Tracked → History → Tracked
+abbrev pub track-on : ℕ → Tracked → History → Tracked
 track-on w t h = folded (λ k e. track-by w (stored e) k) t h
 
 -- after more events: no store to the word, and its last store as before; or a store whose count is above its core's before
@@ -53,7 +53,7 @@ counts-rise w None t c = omega arith
 counts-rise w (Some s) t c = grind (arith, upd-cases (t .counts) (s .core) (t .counts (s .core) + 1) c)
 
 -- which of the two
-abbrev After : ℕ → Tracked → Tracked → Bool → Type 0
+abbrev pub After : ℕ → Tracked → Tracked → Bool → Type 0
 After w t u some = ((some ≡ false) × (u .last ≡ t .last)) ⊎ ((some ≡ true) × Later w t u)
 
 later-step : (w : ℕ) (t : Tracked) (o : Option Written) (u : Tracked) (some : Bool) → After w (track-by w o t) u some → After w t u (writes w o || some)

@@ -18,3 +18,4 @@ pub mod Turns
 pub mod Holders
 pub mod Own
 pub mod Order
+pub mod Decides

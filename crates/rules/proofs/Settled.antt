@@ -51,7 +51,7 @@ settled-page r settled w inside =
       }
 
 -- only the value of the opening word counts
-fresh-alike : (o : Option Told-store) (old other x : Word) → old .value ≡ other .value → Fresh o old x → Fresh o other x
+pub fresh-alike : (o : Option Told-store) (old other x : Word) → old .value ≡ other .value → Fresh o old x → Fresh o other x
 fresh-alike None old other x e p = p ∙ (λ i. record { value = e i; mark = mark-at 0 })
 fresh-alike (Some s) old other x e p = p
 

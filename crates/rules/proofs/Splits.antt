@@ -25,10 +25,10 @@ pub data Placed {X : Type 0} (A : List X) (x : X) (C : List X) (y : X) : Type 0 
   same : A ≡ C → x ≡ y → Placed A x C y
   later : (M : List X) → A ≡ C ++ (y ∷ M) → Placed A x C y
 
-head-same : {X : Type 0} (x y : X) (xs ys : List X) → x ∷ xs ≡ y ∷ ys → x ≡ y
+pub head-same : {X : Type 0} (x y : X) (xs ys : List X) → x ∷ xs ≡ y ∷ ys → x ≡ y
 head-same x y xs ys e = cc
 
-tail-same : {X : Type 0} (x y : X) (xs ys : List X) → x ∷ xs ≡ y ∷ ys → xs ≡ ys
+pub tail-same : {X : Type 0} (x y : X) (xs ys : List X) → x ∷ xs ≡ y ∷ ys → xs ≡ ys
 tail-same x y xs ys e = cc
 
 placed-under : {X : Type 0} (a c : X) (A C : List X) (x y : X) → a ≡ c → Placed A x C y → Placed (a ∷ A) x (c ∷ C) y
