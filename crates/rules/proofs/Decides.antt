@@ -20,7 +20,7 @@ use Rattle.call.specs.declared.refusal.Refusal.{Refusal}
 use Rattle.word.specs.declared.word.Word.{Word}
 use Rattle.rules.specs.Effects as effect
 use Rattle.rules.specs.Histories.{refused-with, stored, store-of, Written, Wanted, writes, stores-to, Told-store, Tracked, track-by, tracked, last-store, Fresh, loaded, given-by, load-of, Load-given, concerns, calls-of, ledger-of}
-use Rattle.rules.specs.Laws.{Alike, Same-order, Same-load, Order-decides, old-word, size}
+use Rattle.rules.specs.Laws.{Alike, Unrefused, Same-order, Same-load, Order-decides, old-word, size}
 use Rattle.rules.specs.Refusals.{refusal}
 use Rattle.rules.specs.Runs.{Event, History, Ran}
 use Rattle.rules.specs.State.{Setting, setting}
@@ -28,7 +28,7 @@ use Rattle.rules.specs.Steps.{step, outcome, again}
 use Rattle.rules.specs.Tables.{some-of}
 use Rattle.rules.proofs.Equal.{folded-append, fresh-same, later, track-on, After}
 use Rattle.rules.proofs.Fresh.{reached, no-stale, loaded-tells, step-refused}
-use Rattle.rules.proofs.Order.{access-of, store-accesses, access-concerns, Twins, before-ok, keeps-order}
+use Rattle.rules.proofs.Order.{access-of, access-below, store-accesses, access-concerns, Twins, before-ok, keeps-order}
 use Rattle.rules.proofs.Own.{Found, found, own-stores, stores-own}
 use Rattle.rules.proofs.Settled.{fresh-alike}
 use Rattle.rules.proofs.Splits.{Spot, Last, last-of, none-at, joined-append, tail-same}
@@ -46,16 +46,23 @@ same-order-back r q o =
         alike = record { sizes = sym (o .alike .sizes); values = λ w l. sym (o .alike .values w (rw (o .alike .sizes) l)) };
         all-accepted = o .others-accepted;
         others-accepted = o .all-accepted;
-        calls = λ c. sym (o .calls c);
-        holders = λ l. sym (o .holders l)
+        calls = λ c l. sym (o .calls c l);
+        holders = λ l p. sym (o .holders l p)
       }
 
+-- an accepted access is by one of the eight cores
+access-core : (r : Ran) → Unrefused (r .history) → (s : Spot (r .history)) (a : Wanted) → access-of (s .event .call) ≡ Some a → a .core < 8
+access-core r ok s a uses =
+    let below = access-below (setting (r .figures) (r .page)) (ledger-of (s .before)) (s .event .call) a uses (legal r ok .passes (s .before) (s .event) (s .after) (s .stands)) in
+    let few = fits (r .figures) (r .page) (r .passed) .cores in
+    omega arith
+
 -- each call of a core has its twin in the other run
-pub twin : (r q : Ran) → Same-order r q → (c : ℕ) (s : Spot (r .history)) → concerns c (s .event .call) ≡ true → (t : Spot (q .history)) × Twins c s t
-twin r q o c s t =
+pub twin : (r q : Ran) → Same-order r q → (c : ℕ) → c < 8 → (s : Spot (r .history)) → concerns c (s .event .call) ≡ true → (t : Spot (q .history)) × Twins c s t
+twin r q o c below s t =
     let mine = calls-of c (s .before) in
     let here : calls-of c (s .event ∷ s .after) ≡ s .event .call ∷ calls-of c (s .after) = ap (λ (b : Bool). cond b (s .event .call ∷ []) [] ++ calls-of c (s .after)) t in
-    let whole : calls-of c (q .history) ≡ mine ++ (s .event .call ∷ calls-of c (s .after)) = sym (o .calls c) ∙ (ap (calls-of c) (s .stands) ∙ (joined-append _ (s .before) (s .event ∷ s .after) ∙ ap (λ (k : List Call). mine ++ k) here)) in
+    let whole : calls-of c (q .history) ≡ mine ++ (s .event .call ∷ calls-of c (s .after)) = sym (o .calls c below) ∙ (ap (calls-of c) (s .stands) ∙ (joined-append _ (s .before) (s .event ∷ s .after) ∙ ap (λ (k : List Call). mine ++ k) here)) in
     let f = found c (q .history) mine (s .event .call) (calls-of c (s .after)) whole in
     (f .spot, record { place = sym (f .place); call = sym (f .call) })
 
@@ -123,7 +130,7 @@ module _ (r q : Ran) (o : Same-order r q) where
 
     carried : (S′ : Spot (q .history)) (s : Written) → store-of (S′ .event .call) ≡ Some s → s .word ≡ a .word → (M′ : History) → T′ .before ≡ S′ .before ++ (S′ .event ∷ M′) → Carried S′ s
     carried S′ s call here M′ split =
-        let found-s = twin q r (same-order-back r q o) (s .core) S′ (access-concerns (S′ .event .call) (record { core = s .core; word = s .word }) (store-accesses (S′ .event .call) s call)) in
+        let found-s = twin q r (same-order-back r q o) (s .core) (access-core q (o .others-accepted) S′ (record { core = s .core; word = s .word }) (store-accesses (S′ .event .call) s call)) S′ (access-concerns (S′ .event .call) (record { core = s .core; word = s .word }) (store-accesses (S′ .event .call) s call)) in
         let k = keeps-order q r (same-order-back r q o) S′ T′ (found-s .0) T s a call uses′ here (found-s .1) (twins-back (a .core) T T′ twins) M′ split in
         record { spot = found-s .0; twins-s = twins-back (s .core) S′ (found-s .0) (found-s .1); between = k .0; first = k .1 }
 
@@ -159,7 +166,7 @@ module _ (r q : Ran) (o : Same-order r q) where
         st = stores-tells (a .word) (l .event) (accepts-r S) (l .passes)
 
         found-s : (t : Spot (q .history)) × Twins (st .store .core) S t
-        found-s = twin r q o (st .store .core) S (access-concerns (l .event .call) (record { core = st .store .core; word = st .store .word }) (store-accesses (l .event .call) (st .store) (st .call)))
+        found-s = twin r q o (st .store .core) (access-core r (o .all-accepted) S (record { core = st .store .core; word = st .store .word }) (store-accesses (l .event .call) (st .store) (st .call))) S (access-concerns (l .event .call) (record { core = st .store .core; word = st .store .word }) (store-accesses (l .event .call) (st .store) (st .call)))
 
         S′ : Spot (q .history)
         S′ = found-s .0
@@ -246,7 +253,7 @@ order-decides r q o before e after l split h =
     uses = ap access-of is-load
 
     found-t : (t : Spot (q .history)) × Twins (l .core) T t
-    found-t = twin r q o (l .core) T (access-concerns (e .call) a uses)
+    found-t = twin r q o (l .core) (access-core r (o .all-accepted) T a uses) T (access-concerns (e .call) a uses)
 
     T′ : Spot (q .history)
     T′ = found-t .0

@@ -7,8 +7,9 @@ use mathlib.Core.List.{List, [], _∷_, _++_, append-assoc}
 use mathlib.Core.Logic.{_⊎_, inl, inr, ⊎-elim}
 use mathlib.Core.Path.{_≡_, refl, sym, _∙_, ap, subst}
 use native.Mathlib.Omega.{arith}
-use Prim.Native.Nat.{ℕ, _+_, _≤_, _<_}
-use lib.Dec.{eqb}
+use native.Mathlib.Nat.{mod-lt}
+use Prim.Native.Nat.{ℕ, _+_, _-_, _/_, _^_, _≤_, _<_}
+use lib.Dec.{eqb, leb, lit<}
 use lib.ListN.{length, length-append}
 use Rattle.std.specs.Iters.{folded}
 use Rattle.std.specs.Options.{isSome}
@@ -17,14 +18,14 @@ use Rattle.std.specs.declared.option.Option.the-variants.{Some, None}
 use Rattle.std.proofs.shelf.Lists.{append-nil, append-cancel-left, nil-from-length}
 use Rattle.std.proofs.shelf.Tests.{eq-eqb, or-right, cases-eq, both-ways, cases-bool, cond-true}
 use Rattle.call.specs.Calls.{caller-of}
-use Rattle.call.specs.Figures.{Five}
+use Rattle.call.specs.Figures.{Five, strip-of}
 use Rattle.call.specs.declared.call.Call.{Call}
 use Rattle.call.specs.declared.call.Call.the-variants as call
 use Rattle.call.specs.declared.refusal.Access.the-variants.{Load, Store}
 use Rattle.call.specs.declared.refusal.Refusal.{Refusal}
 use Rattle.rules.specs.Histories.{accepted, refused-with, store-of, Written, Wanted, plan-of, acquirers, releasers, order-of-holders, concerns, calls-of, entered-by, ledger-of}
 use Rattle.rules.specs.Laws.{Same-order}
-use Rattle.rules.specs.Plans.{Mode, read-only, written, locked, mode-of, is-read-only}
+use Rattle.rules.specs.Plans.{Mode, read-only, written, locked, bits-of, mode-of-bits, mode-of, is-read-only}
 use Rattle.rules.specs.Refusals.{refusal, load-race, store-race, earliest, shut-out}
 use Rattle.rules.specs.Runs.{Event, History, Ran}
 use Rattle.rules.specs.State.{Ledger, Setting, setting}
@@ -78,6 +79,19 @@ accesses b l (call.Acquire core lock) a e ok = grind arith
 accesses b l (call.Release core lock) a e ok = grind arith
 accesses b l (call.Phase plan) a e ok = grind arith
 accesses b l call.Settle a e ok = grind arith
+
+pub access-below : (b : Setting) (l : Ledger) (k : Call) (a : Wanted) → access-of k ≡ Some a → refusal b l k ≡ None → a .core < b .figures .cores
+access-below b l (call.Load core word) a e ok =
+    let eq : record { core = core; word = word } ≡ a = cc in
+    subst (λ (x : Wanted). x .core < b .figures .cores) eq (load-passes b l core word ok .in-cores)
+access-below b l (call.Store core word value) a e ok =
+    let eq : record { core = core; word = word } ≡ a = cc in
+    subst (λ (x : Wanted). x .core < b .figures .cores) eq (store-passes b l core word value ok .in-cores)
+access-below b l (call.Evict core word) a e ok = grind arith
+access-below b l (call.Acquire core lock) a e ok = grind arith
+access-below b l (call.Release core lock) a e ok = grind arith
+access-below b l (call.Phase plan) a e ok = grind arith
+access-below b l call.Settle a e ok = grind arith
 
 pub store-tells : (k : Call) (s : Written) → store-of k ≡ Some s → k ≡ call.Store (s .core) (s .word) (s .value)
 store-tells (call.Load core word) s e = grind arith
@@ -156,20 +170,29 @@ longer c a e m t =
 no-more : (xs ys : List ℕ) → length (xs ++ ys) ≤ length xs → ys ≡ []
 no-more xs ys l = let whole = length-append xs ys in nil-from-length ys (omega arith)
 
+-- four bits name one of eight locks
+locked-below : (bits lock : ℕ) → bits < 16 → mode-of-bits bits ≡ locked lock → lock < 8
+locked-below bits lock small e = go (eqb bits 0) (leb 8 bits) e
+  where
+    go : (t u : Bool) → cond t read-only (cond u (locked (bits - 8)) written) ≡ locked lock → lock < 8
+    go true u q = grind arith
+    go false true q = let eq : bits - 8 ≡ lock = cc in omega arith
+    go false false q = grind arith
+
 -- the calls before a spot were accepted
 pub before-ok : (h : History) → ((before : History) (e : Event) (after : History) → h ≡ before ++ (e ∷ after) → refused-with (e .answer) ≡ None) → (p : Spot h) → All-accepted (p .before)
 before-ok h ok p =
     accepted-front (p .before) (p .event ∷ p .after) (subst All-accepted (p .stands) (all-accepted h ok))
 
 -- a core that holds a lock where it has made the same calls: the same cores have released the lock before
-pub same-releasers : (r q : Ran) → Same-order r q → (c lock : ℕ) (X : Spot (r .history)) (Y : Spot (q .history)) → calls-of c (X .before) ≡ calls-of c (Y .before) → ledger-of (X .before) .locks lock .holder ≡ Some c → ledger-of (Y .before) .locks lock .holder ≡ Some c → releasers lock (X .before) ≡ releasers lock (Y .before)
-same-releasers r q order c lock X Y place holds-x holds-y =
+pub same-releasers : (r q : Ran) → Same-order r q → (c lock : ℕ) → lock < 8 → (X : Spot (r .history)) (Y : Spot (q .history)) → calls-of c (X .before) ≡ calls-of c (Y .before) → ledger-of (X .before) .locks lock .holder ≡ Some c → ledger-of (Y .before) .locks lock .holder ≡ Some c → releasers lock (X .before) ≡ releasers lock (Y .before)
+same-releasers r q order c lock below X Y place holds-x holds-y =
     let ok-r = legal r (order .all-accepted) in
     let ok-q = legal q (order .others-accepted) in
     let one = holders-begin (setting (r .figures) (r .page)) (r .history) ok-r lock c (X .before) (X .event ∷ X .after) (X .stands) holds-x in
     let two = holders-begin (setting (q .figures) (q .page)) (q .history) ok-q lock c (Y .before) (Y .event ∷ Y .after) (Y .stands) holds-y in
     same-beginning c (releasers lock (X .before)) (releasers lock (Y .before)) (one .0) (two .0)
-    (sym (one .1) ∙ (order .holders lock ∙ two .1))
+    (sym (one .1) ∙ (order .holders lock below ∙ two .1))
     (releases-own c lock (X .before) (before-ok (r .history) (ok-r .accepts) X)
      ∙ (ap (own-releases c lock) place ∙ sym (releases-own c lock (Y .before) (before-ok (q .history) (ok-q .accepts) Y))))
 
@@ -298,6 +321,9 @@ module _ (r q : Ran) (order : Same-order r q) (S T : Spot (r .history)) (S′ T�
     not-locked : (lock : ℕ) → mode ≡ locked lock → ⊥
     not-locked lock m = apart one-holder
       where
+        in-locks : lock < 8
+        in-locks = locked-below (bits-of plan (strip-of (r .figures) (a .word))) lock (mod-lt (plan / 16 ^ strip-of (r .figures) (a .word)) (lit< tt)) m
+
         holds-s : ledger-of (S .before) .locks lock .holder ≡ Some (s .core)
         holds-s = at-s .by-holder lock (mode-s ∙ m)
 
@@ -305,10 +331,10 @@ module _ (r q : Ran) (order : Same-order r q) (S T : Spot (r .history)) (S′ T�
         holds-t = at-t .by-holder lock (mode-t ∙ m)
 
         s-releasers : releasers lock (S .before) ≡ releasers lock (S′ .before)
-        s-releasers = same-releasers r q order (s .core) lock S S′ (twin-s .place) holds-s (at-s′ .by-holder lock (mode-s′ ∙ m))
+        s-releasers = same-releasers r q order (s .core) lock in-locks S S′ (twin-s .place) holds-s (at-s′ .by-holder lock (mode-s′ ∙ m))
 
         t-releasers : releasers lock (T .before) ≡ releasers lock (T′ .before)
-        t-releasers = same-releasers r q order (a .core) lock T T′ (twin-t .place) holds-t (at-t′ .by-holder lock (mode-t′ ∙ m))
+        t-releasers = same-releasers r q order (a .core) lock in-locks T T′ (twin-t .place) holds-t (at-t′ .by-holder lock (mode-t′ ∙ m))
 
         none-between : releasers lock (S .event ∷ M) ≡ []
         none-between =

@@ -71,14 +71,14 @@ abbrev pub Unrefused : History → Type 0
 Unrefused h = (before : History) (e : Event) (after : History) → h ≡ before ++ (e ∷ after) → accepted e ≡ true
 
 -- two runs without a refusal from equal figures, size and opening values, whose phase calls, each core's calls within each
--- phase and each lock's order of holders are the same
+-- phase and each lock's order of holders are the same; settles are no core's calls, and may stand anywhere in any number
 pub record Same-order (r q : Ran) : Type 0 where
   pub figures : r .figures ≡ q .figures
   pub alike : Alike r q
   pub all-accepted : Unrefused (r .history)
   pub others-accepted : Unrefused (q .history)
-  pub calls : (core : ℕ) → calls-of core (r .history) ≡ calls-of core (q .history)
-  pub holders : (lock : ℕ) → order-of-holders lock (r .history) ≡ order-of-holders lock (q .history)
+  pub calls : (core : ℕ) → core < 8 → calls-of core (r .history) ≡ calls-of core (q .history)
+  pub holders : (lock : ℕ) → lock < 8 → order-of-holders lock (r .history) ≡ order-of-holders lock (q .history)
 
 -- the load at the same place among its core's calls of that phase, and that it gave the same word
 pub record Same-load (q : Ran) (before : History) (e : Event) (l : Load-given) : Type 0 where
