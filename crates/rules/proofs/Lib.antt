@@ -19,3 +19,4 @@ pub mod Holders
 pub mod Own
 pub mod Order
 pub mod Decides
+pub mod Instance

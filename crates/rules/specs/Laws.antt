@@ -7,14 +7,14 @@ use Prim.Native.Nat.{ℕ, _<_}
 use lib.ListN.{length, getD}
 use Rattle.std.specs.declared.option.Option.{Option}
 use Rattle.std.specs.declared.option.Option.the-variants.{Some, None}
-use Rattle.call.specs.Calls.{caller-of}
+use Rattle.call.specs.Figures.{Five}
 use Rattle.call.specs.declared.call.Call.the-variants.{Settle}
 use Rattle.call.specs.declared.refusal.Refusal.{Refusal}
 use Rattle.word.specs.declared.word.Word.{Word}
 use Rattle.rules.specs.Histories.{accepted, refused-with, loaded, Load-given, stores-to, last-store, Fresh, ledger-of, order-of-holders, calls-of}
 use Rattle.rules.specs.Refusals.{refusal}
 use Rattle.rules.specs.Runs.{Event, History, Ran}
-use Rattle.rules.specs.State.{size-of, setting, page-word, blank}
+use Rattle.rules.specs.State.{State, size-of, setting, page-word, blank}
 use Rattle.rules.specs.Tables.{some-of}
 
 -- the opening word at a place, before its mark was taken off
@@ -114,3 +114,13 @@ pub record Run-laws (r : Ran) : Type 0 where
   pub settled-pages : (q : Ran) → Settled-pages r q
   pub order-decides : (q : Ran) → Order-decides r q
   pub refusals-told : Refusals-told r
+
+-- This history, with the state that it leaves, is that of a run on a board just opened with these figures on this page; of it,
+-- and of it with every other run, all laws hold.
+pub record Lawful-run (f : Five) (words : List Word) (h : History) (left : State) : Type 0 where
+  pub run : Ran
+  pub figures : run .figures ≡ f
+  pub page : run .page ≡ words
+  pub history : run .history ≡ h
+  pub final : run .final ≡ left
+  pub laws : Run-laws run

@@ -5,6 +5,7 @@ pub mod Plans
 pub mod Refusals
 pub mod Effects
 pub mod Steps
+pub mod Questions
 pub mod Runs
 pub mod Histories
 pub mod Laws

@@ -7,6 +7,7 @@ use Rattle.std.specs.declared.result.Result.the-variants.{Ok}
 use Rattle.call.specs.Figures.{Five, checked}
 use Rattle.call.specs.declared.answer.Answer.{Answer}
 use Rattle.call.specs.declared.call.Call.{Call}
+use Rattle.sets.specs.Sentences as signature
 use Rattle.sets.specs.Sentences.{Sets}
 use Rattle.word.specs.declared.word.Word.{Word}
 use Rattle.rules.specs.State.{State, Setting, setting, opening}
@@ -33,6 +34,12 @@ play ops b s g (c ∷ cs) =
 abbrev pub run : {S : Type 0} → Operations S → Five → List Word → S → List Call → Played S
 run ops f page g cs = play ops (setting f page) (opening f page) (changed-by ops g clear-all) cs
 
+-- operations that keep the sentences of a signature
+pub record Lawful {S : Type 0} (ops : Operations S) : Type 0 where
+  pub puts : (s : S) (core word : ℕ) → signature.Put (ops .holds s) (ops .holds (ops .put s core word)) core word
+  pub takes-in : (s : S) (core other : ℕ) → signature.Taken-in (ops .holds s) (ops .holds (ops .take-in s core other)) core other
+  pub clears : (s : S) (core : ℕ) → signature.Cleared (ops .holds s) (ops .holds (ops .clear s core)) core
+
 -- ── with sets free within the sentences ──
 
 -- a call and its answer
@@ -43,6 +50,12 @@ pub record Event : Type 0 where
 -- the calls made with their answers, the oldest first
 abbrev pub History : Type 0
 History = List Event
+
+-- each call with its answer
+abbrev pub history-of : List Call → List Answer → History
+history-of [] answers = []
+history-of (c ∷ cs) [] = []
+history-of (c ∷ cs) (a ∷ answers) = record { call = c; answer = a } ∷ history-of cs answers
 
 -- a history that leads from one state to another, each answer and state by the rules, the sets by the sentences
 abbrev pub Chain : Setting → State → Sets → History → State → Type 0
