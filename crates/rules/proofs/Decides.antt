@@ -41,14 +41,14 @@ use Rattle.rules.proofs.Walking.{Reached, of-unrefused}
 
 pub same-order-back : (r q : Ran) → Same-order r q → Same-order q r
 same-order-back r q o =
-    record
-      { figures = sym (o .figures);
-        alike = record { sizes = sym (o .alike .sizes); values = λ w l. sym (o .alike .values w (rw (o .alike .sizes) l)) };
-        all-accepted = o .others-accepted;
-        others-accepted = o .all-accepted;
-        calls = λ c l. sym (o .calls c l);
-        holders = λ l p. sym (o .holders l p)
-      }
+    record {
+      figures = sym (o .figures);
+      alike = record { sizes = sym (o .alike .sizes); values = λ w l. sym (o .alike .values w (rw (o .alike .sizes) l)) };
+      all-accepted = o .others-accepted;
+      others-accepted = o .all-accepted;
+      calls = λ c l. sym (o .calls c l);
+      holders = λ l p. sym (o .holders l p);
+    }
 
 -- an accepted access is by one of the eight cores
 access-core : (r : Ran) → Unrefused (r .history) → (s : Spot (r .history)) (a : Wanted) → access-of (s .event .call) ≡ Some a → a .core < 8
@@ -152,9 +152,9 @@ module _ (r q : Ran) (o : Same-order r q) where
     agree-some some =
         ap (last-store (a .word)) (l .stands)
         ∙ (last-at (a .word) (l .before) (l .event) (l .after) (st .store) (accepts-r S) (st .call) (st .here) (l .none-later)
-           ∙ (same-told
-              ∙ (sym (last-at (a .word) (S′ .before) (S′ .event) (after .0) (st .store) (accepts-q S′) call′ (st .here) none-later′)
-                 ∙ ap (last-store (a .word)) (sym (after .1)))))
+        ∙ (same-told
+        ∙ (sym (last-at (a .word) (S′ .before) (S′ .event) (after .0) (st .store) (accepts-q S′) call′ (st .here) none-later′)
+        ∙ ap (last-store (a .word)) (sym (after .1)))))
       where
         l : Last (stores-to (a .word)) (T .before)
         l = last-of (stores-to (a .word)) (T .before) some
@@ -181,8 +181,8 @@ module _ (r q : Ran) (o : Same-order r q) where
         same-told =
             ap (λ (n : ℕ). told-as (st .store) (n + 1))
             (stores-own (a .word) (st .store .core) (l .before) (before-ok (r .history) (legal r (o .all-accepted) .accepts) S)
-             ∙ (ap (own-stores (st .store .core)) (found-s .1 .place)
-                ∙ sym (stores-own (a .word) (st .store .core) (S′ .before) (before-ok (q .history) (legal q (o .others-accepted) .accepts) S′))))
+            ∙ (ap (own-stores (st .store .core)) (found-s .1 .place)
+            ∙ sym (stores-own (a .word) (st .store .core) (S′ .before) (before-ok (q .history) (legal q (o .others-accepted) .accepts) S′))))
 
         -- a later store would have a twin between the two
         never : some-of (stores-to (a .word)) (after .0) ≡ true → ⊥
@@ -230,15 +230,15 @@ load-gives q t w c a = go (refusal b (p .state .ledger) (call.Load (w .core) (w 
 
 pub order-decides : (r q : Ran) → Order-decides r q
 order-decides r q o before e after l split h =
-    record
-      { others-before = T′ .before;
-        other = T′ .event;
-        others-after = T′ .after;
-        stands = T′ .stands;
-        place = sym (twins .place);
-        call = sym (twins .call);
-        gives = gives .1 ∙ (λ i. Some (record { core = l .core; word = l .word; given = sym same-word-given i }))
-      }
+    record {
+      others-before = T′ .before;
+      other = T′ .event;
+      others-after = T′ .after;
+      stands = T′ .stands;
+      place = sym (twins .place);
+      call = sym (twins .call);
+      gives = gives .1 ∙ (λ i. Some (record { core = l .core; word = l .word; given = sym same-word-given i }));
+    }
   where
     T : Spot (r .history)
     T = record { before = before; event = e; after = after; stands = split }

@@ -50,7 +50,7 @@ refusals-told r before e after split =
     let p = reached r before (e ∷ after) split in
     ap refused-with (p .chain .0)
     ∙ (step-refused (setting (r .figures) (r .page)) (p .sets) (p .state) (e .call)
-       ∙ ap (λ (l : Ledger). refusal (setting (r .figures) (r .page)) l (e .call)) (p .moment .told .ledger))
+    ∙ ap (λ (l : Ledger). refusal (setting (r .figures) (r .page)) l (e .call)) (p .moment .told .ledger))
 
 load-of-tells : (c : Call) (w : Wanted) → load-of c ≡ Some w → c ≡ call.Load (w .core) (w .word)
 load-of-tells (call.Load core word) w e =

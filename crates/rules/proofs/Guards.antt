@@ -62,25 +62,30 @@ pub record Cores (lock : Lock) : Type 0 where
 -- ── acquire ──
 
 pub acquired-guarded : (o : Option ℕ) (lock : Lock) (core : ℕ) (g h : Sets) → lock .holder ≡ o → core < 8 → Cores lock → Changes (granted-changes o lock core) g h → Grow g h × ((w : ℕ) → Guarded lock g w → Guarded (acquired-by o lock core) h w)
-acquired-guarded (Some d) lock core g h e below ok ch =
-    ( same-grows g h ch,
-      λ w p. record { core = d; guards = refl; has = let same : _≡_ {A = Option ℕ} (Some d) (Some (p .core)) = ap (λ (k : Option ℕ). guard-by k (lock .last)) (sym e) ∙ p .guards in let who : d ≡ p .core = cc in ch d w ∙ rw who (p .has) } )
+acquired-guarded (Some d) lock core g h e below ok ch = (
+  same-grows g h ch,
+  λ w p. record { core = d; guards = refl; has = let same : _≡_ {A = Option ℕ} (Some d) (Some (p .core)) = ap (λ (k : Option ℕ). guard-by k (lock .last)) (sym e) ∙ p .guards in let who : d ≡ p .core = cc in ch d w ∙ rw who (p .has) },
+)
 acquired-guarded None lock core g h e below ok ch = go (lock .last) refl ch
   where
     go : (o : Option ℕ) → lock .last ≡ o → Changes (takes-from o core) g h → Grow g h × ((w : ℕ) → Guarded lock g w → Guarded (acquired-by None lock core) h w)
-    go None l same =
-        ( same-grows g h same,
-          λ w p. let none : _≡_ {A = Option ℕ} None (Some (p .core)) = sym (ap (λ (k : Option ℕ). guard-by k (lock .last)) e ∙ l) ∙ p .guards in let z : _≡_ {A = ℕ} 0 1 = cc in let no-way : ⊥ = omega arith in absurd no-way )
-    go (Some d) l (k, t, same) =
-        ( grow-on g k h (take-in-grows g k core d t) (same-grows k h same),
-          λ w p. record { core = core; guards = refl; has = let who : _≡_ {A = Option ℕ} (Some d) (Some (p .core)) = sym (ap (λ (q : Option ℕ). guard-by q (lock .last)) e ∙ l) ∙ p .guards in let eq : d ≡ p .core = cc in same core w ∙ t .taken below (ok .last d l) w (rw eq (p .has)) } )
+    go None l same = (
+      same-grows g h same,
+      λ w p. let none : _≡_ {A = Option ℕ} None (Some (p .core)) = sym (ap (λ (k : Option ℕ). guard-by k (lock .last)) e ∙ l) ∙ p .guards in let z : _≡_ {A = ℕ} 0 1 = cc in let no-way : ⊥ = omega arith in absurd no-way,
+    )
+    go (Some d) l (k, t, same) = (
+      grow-on g k h (take-in-grows g k core d t) (same-grows k h same),
+      λ w p. record { core = core; guards = refl; has = let who : _≡_ {A = Option ℕ} (Some d) (Some (p .core)) = sym (ap (λ (q : Option ℕ). guard-by q (lock .last)) e ∙ l) ∙ p .guards in let eq : d ≡ p .core = cc in same core w ∙ t .taken below (ok .last d l) w (rw eq (p .has)) },
+    )
 
 -- ── release ──
 
 pub released-guarded : (q : List ℕ) (lock : Lock) (core : ℕ) (g h : Sets) → lock .queue ≡ q → lock .holder ≡ Some core → core < 8 → Cores lock → Changes (handed-changes q core) g h → Grow g h × ((w : ℕ) → Guarded lock g w → Guarded (released-to q core) h w)
-released-guarded [] lock core g h e held below ok same =
-    ( same-grows g h same,
-      λ w p. record { core = core; guards = refl; has = let who : _≡_ {A = Option ℕ} (Some core) (Some (p .core)) = sym (ap (λ (k : Option ℕ). guard-by k (lock .last)) held) ∙ p .guards in let eq : core ≡ p .core = cc in same core w ∙ rw eq (p .has) } )
-released-guarded (next ∷ more) lock core g h e held below ok (k, t, same) =
-    ( grow-on g k h (take-in-grows g k next core t) (same-grows k h same),
-      λ w p. record { core = next; guards = refl; has = let who : _≡_ {A = Option ℕ} (Some core) (Some (p .core)) = sym (ap (λ (q : Option ℕ). guard-by q (lock .last)) held) ∙ p .guards in let eq : core ≡ p .core = cc in same next w ∙ t .taken (ok .queue next (rw e (inl refl))) below w (rw eq (p .has)) } )
+released-guarded [] lock core g h e held below ok same = (
+  same-grows g h same,
+  λ w p. record { core = core; guards = refl; has = let who : _≡_ {A = Option ℕ} (Some core) (Some (p .core)) = sym (ap (λ (k : Option ℕ). guard-by k (lock .last)) held) ∙ p .guards in let eq : core ≡ p .core = cc in same core w ∙ rw eq (p .has) },
+)
+released-guarded (next ∷ more) lock core g h e held below ok (k, t, same) = (
+  grow-on g k h (take-in-grows g k next core t) (same-grows k h same),
+  λ w p. record { core = next; guards = refl; has = let who : _≡_ {A = Option ℕ} (Some core) (Some (p .core)) = sym (ap (λ (q : Option ℕ). guard-by q (lock .last)) held) ∙ p .guards in let eq : core ≡ p .core = cc in same next w ∙ t .taken (ok .queue next (rw e (inl refl))) below w (rw eq (p .has)) },
+)

@@ -66,4 +66,4 @@ holders-begin b h ok lock core first rest split holds =
     let got : acquirers lock first ≡ releasers lock first ++ (core ∷ queue) = t .turns ∙ ap (λ (o : Option ℕ). releasers lock first ++ line (record { holder = o; queue = queue; last = None })) holds in
     let whole : acquirers lock h ≡ releasers lock first ++ (core ∷ (queue ++ acquirers lock rest)) = ap (acquirers lock) split ∙ (joined-append _ first rest ∙ (ap (λ (k : List ℕ). k ++ acquirers lock rest) got ∙ append-assoc (releasers lock first) (core ∷ queue) (acquirers lock rest))) in
     let count : length (releasers lock h) ≡ length (releasers lock first) + length (releasers lock rest) = ap (λ (k : History). length (releasers lock k)) split ∙ (ap length (joined-append _ first rest) ∙ length-append (releasers lock first) (releasers lock rest)) in
-    ( _, ap (take (length (releasers lock h) + 1)) whole ∙ take-past (releasers lock first) core (queue ++ acquirers lock rest) (length (releasers lock h) + 1) (omega arith) )
+    (_, ap (take (length (releasers lock h) + 1)) whole ∙ take-past (releasers lock first) core (queue ++ acquirers lock rest) (length (releasers lock h) + 1) (omega arith))

@@ -19,13 +19,13 @@ use Rattle.rules.proofs.Settled.{settled-pages}
 
 pub run-laws : (r : Ran) → Run-laws r
 run-laws r =
-    record
-      { no-stale = no-stale r;
-        equal-loads = equal-loads r;
-        settled-pages = λ q. settled-pages r q;
-        order-decides = λ q. order-decides r q;
-        refusals-told = refusals-told r
-      }
+    record {
+      no-stale = no-stale r;
+      equal-loads = equal-loads r;
+      settled-pages = λ q. settled-pages r q;
+      order-decides = λ q. order-decides r q;
+      refusals-told = refusals-told r;
+    }
 
 module _ {S : Type 0} (ops : Operations S) (ok : Lawful ops) where
   changed-lawful : (s : S) (c : Change) → Changed c (ops .holds s) (ops .holds (changed ops s c))
@@ -39,24 +39,28 @@ module _ {S : Type 0} (ops : Operations S) (ok : Lawful ops) where
 
   pub play-chain : (b : Setting) (s : State) (g : S) (cs : List Call) → Chain b s (ops .holds g) (history-of cs (play ops b s g cs .answers)) (play ops b s g cs .state)
   play-chain b s g [] = refl
-  play-chain b s g (c ∷ cs) =
-      ( refl,
-        ( ops .holds (changed-by ops g (step b (ops .holds g) s c .changes)),
-          changes-lawful g (step b (ops .holds g) s c .changes),
-          play-chain b (step b (ops .holds g) s c .state) (changed-by ops g (step b (ops .holds g) s c .changes)) cs ) )
+  play-chain b s g (c ∷ cs) = (
+    refl,
+    (
+      ops .holds (changed-by ops g (step b (ops .holds g) s c .changes)),
+      changes-lawful g (step b (ops .holds g) s c .changes),
+      play-chain b (step b (ops .holds g) s c .state) (changed-by ops g (step b (ops .holds g) s c .changes)) cs,
+    ),
+  )
+
+  -- the run that a played list of calls is
+  abbrev pub ran-of : (f : Five) (page : List Word) (g : S) (cs : List Call) → checked f ≡ Ok f → Ran
+  ran-of f page g cs passed =
+      record {
+        figures = f;
+        page = page;
+        sets = ops .holds (changed-by ops g clear-all);
+        history = history-of cs (run ops f page g cs .answers);
+        final = run ops f page g cs .state;
+        passed = passed;
+        chain = play-chain (setting f page) (opening f page) (changed-by ops g clear-all) cs;
+      }
 
   pub lawful-run : (f : Five) (page : List Word) (g : S) (cs : List Call) → checked f ≡ Ok f → Lawful-run f page (history-of cs (run ops f page g cs .answers)) (run ops f page g cs .state)
   lawful-run f page g cs passed =
-      record { run = this; figures = refl; page = refl; history = refl; final = refl; laws = run-laws this }
-    where
-      this : Ran
-      this =
-          record
-            { figures = f;
-              page = page;
-              sets = ops .holds (changed-by ops g clear-all);
-              history = history-of cs (run ops f page g cs .answers);
-              final = run ops f page g cs .state;
-              passed = passed;
-              chain = play-chain (setting f page) (opening f page) (changed-by ops g clear-all) cs
-            }
+      record { run = ran-of f page g cs passed; figures = refl; page = refl; history = refl; final = refl; laws = run-laws (ran-of f page g cs passed) }

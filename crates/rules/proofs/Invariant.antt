@@ -93,11 +93,11 @@ module _ (b : Setting) (fits : Fits b) (now : ℕ → Word) (s : State) (g g′ 
   -- the same ledger, and the sets as they were
   same-phased : ((c w : ℕ) → g′ c w ≡ g c w) → Phased f l g′
   same-phased same =
-      record
-        { still = good .phased .still;
-          covered = λ w d lock m e. guarded-grows (l .locks lock) g g′ w (same-grows g g′ same) (good .phased .covered w d lock m e);
-          cores = good .phased .cores
-        }
+      record {
+        still = good .phased .still;
+        covered = λ w d lock m e. guarded-grows (l .locks lock) g g′ w (same-grows g g′ same) (good .phased .covered w d lock m e);
+        cores = good .phased .cores;
+      }
 
   -- ── load ──
 
@@ -125,11 +125,11 @@ module _ (b : Setting) (fits : Fits b) (now : ℕ → Word) (s : State) (g g′ 
 
     load-keeps : ((c w : ℕ) → g′ c w ≡ g c w) → Good b now (after b g s (call.Load core word)) g′
     load-keeps same =
-        record
-          { sound = weakened f now (Stale f l) (Stale f (entered l (call.Load core word))) _ worse (load-is-fresh .sound);
-            phased = record { still = λ w d m e. good .phased .still w d m (was w d e); covered = λ w d lock m e. same-phased same .covered w d lock m (was w d e); cores = good .phased .cores };
-            long = rw (load-is-fresh .long) (good .long)
-          }
+        record {
+          sound = weakened f now (Stale f l) (Stale f (entered l (call.Load core word))) _ worse (load-is-fresh .sound);
+          phased = record { still = λ w d m e. good .phased .still w d m (was w d e); covered = λ w d lock m e. same-phased same .covered w d lock m (was w d e); cores = good .phased .cores };
+          long = rw (load-is-fresh .long) (good .long);
+        }
       where
         was : (w d : ℕ) → stored-in (entered l (call.Load core word) .accesses) d w ≡ true → stored-in (l .accesses) d w ≡ true
         was w d e = sym (stored-after-load (l .accesses) core word d w) ∙ e
@@ -159,11 +159,11 @@ module _ (b : Setting) (fits : Fits b) (now : ℕ → Word) (s : State) (g g′ 
 
     store-phased : Changes (changes f l (call.Store core word value)) g g′ → Phased f l′ g′
     store-phased ch =
-        record
-          { still = λ w d m e. ⊎-elim (λ old. good .phased .still w d m old) (λ new. both-ways (is-read-only (mode-of f (l .plan) word)) writable (ap (λ (v : ℕ). is-read-only (mode-of f (l .plan) v)) (sym (new .0)) ∙ ap is-read-only m)) (stored-after (l .accesses) core word d w e);
-            covered = covered-after (mode-of f (l .plan) word) refl ch;
-            cores = good .phased .cores
-          }
+        record {
+          still = λ w d m e. ⊎-elim (λ old. good .phased .still w d m old) (λ new. both-ways (is-read-only (mode-of f (l .plan) word)) writable (ap (λ (v : ℕ). is-read-only (mode-of f (l .plan) v)) (sym (new .0)) ∙ ap is-read-only m)) (stored-after (l .accesses) core word d w e);
+          covered = covered-after (mode-of f (l .plan) word) refl ch;
+          cores = good .phased .cores;
+        }
       where
         covered-after : (mode : Mode) → mode-of f (l .plan) word ≡ mode → Changes (cond (is-locked mode) (put core word ∷ []) []) g g′ → (w d lock : ℕ) → mode-of f (l .plan) w ≡ locked lock → stored-in (l′ .accesses) d w ≡ true → Guarded (l .locks lock) g′ w
         covered-after read-only e same w d lock m st = absurd (both-ways (is-read-only (mode-of f (l .plan) word)) writable (ap is-read-only e))
@@ -176,11 +176,11 @@ module _ (b : Setting) (fits : Fits b) (now : ℕ → Word) (s : State) (g g′ 
             ⊎-elim
             (λ old. guarded-grows (l .locks lock) g g′ w (grow-on g h g′ (put-grows g h core word p) (same-grows h g′ same)) (good .phased .covered w d lock m old))
             (λ new.
-                let here : mode-of f (l .plan) word ≡ locked lock = ap (mode-of f (l .plan)) (sym (new .0)) ∙ m in
-                let held = not-shut-out l (mode-of f (l .plan) word) core lock here open-to in
-                let few = fits .cores in
-                let small = fits .size in
-                record { core = core; guards = rw held refl; has = rw (new .0) (same core word ∙ p .named (omega arith, omega arith)) })
+            let here : mode-of f (l .plan) word ≡ locked lock = ap (mode-of f (l .plan)) (sym (new .0)) ∙ m in
+            let held = not-shut-out l (mode-of f (l .plan) word) core lock here open-to in
+            let few = fits .cores in
+            let small = fits .size in
+            record { core = core; guards = rw held refl; has = rw (new .0) (same core word ∙ p .named (omega arith, omega arith)) })
             (stored-after (l .accesses) core word d w st)
 
     store-good : Changes (changes f l (call.Store core word value)) g g′ → Good b (upd now word x) (after b g s (call.Store core word value)) g′
@@ -202,11 +202,11 @@ module _ (b : Setting) (fits : Fits b) (now : ℕ → Word) (s : State) (g g′ 
 
   locks-phased : (lock : ℕ) (new : Lock) → Grow g g′ → ((w : ℕ) → Guarded (l .locks lock) g w → Guarded new g′ w) → Cores new → Phased f (with-lock l lock new) g′
   locks-phased lock new grow guards ok =
-      record
-        { still = good .phased .still;
-          covered = λ w d k m e. at-lock w k (good .phased .covered w d k m e);
-          cores = λ k. ⊎-elim (λ p. rw (p .1) ok) (λ p. rw (p .1) (good .phased .cores k)) (upd-cases (l .locks) lock new k)
-        }
+      record {
+        still = good .phased .still;
+        covered = λ w d k m e. at-lock w k (good .phased .covered w d k m e);
+        cores = λ k. ⊎-elim (λ p. rw (p .1) ok) (λ p. rw (p .1) (good .phased .cores k)) (upd-cases (l .locks) lock new k);
+      }
     where
       at-lock : (w k : ℕ) → Guarded (l .locks k) g w → Guarded (upd (l .locks) lock new k) g′ w
       at-lock w k p =
@@ -224,65 +224,65 @@ module _ (b : Setting) (fits : Fits b) (now : ℕ → Word) (s : State) (g g′ 
   acquire-good core lock in-cores ch =
       let few = fits .cores in
       let k = acquired-guarded (l .locks lock .holder) (l .locks lock) core g g′ refl (omega arith) (good .phased .cores lock) ch in
-      record
-        { sound = locks-sound lock (acquired-by (l .locks lock .holder) (l .locks lock) core);
-          phased = locks-phased lock (acquired-by (l .locks lock .holder) (l .locks lock) core) (k .0) (k .1) (cores-after (l .locks lock .holder) refl);
-          long = good .long
-        }
+      record {
+        sound = locks-sound lock (acquired-by (l .locks lock .holder) (l .locks lock) core);
+        phased = locks-phased lock (acquired-by (l .locks lock .holder) (l .locks lock) core) (k .0) (k .1) (cores-after (l .locks lock .holder) refl);
+        long = good .long;
+      }
     where
       cores-after : (o : Option ℕ) → l .locks lock .holder ≡ o → Cores (acquired-by o (l .locks lock) core)
       cores-after None e =
-          record
-            { holder = λ c h. let few = fits .cores in let who : core ≡ c = cc in omega (arith, in-cores);
-              queue = good .phased .cores lock .queue;
-              last = good .phased .cores lock .last
-            }
+          record {
+            holder = λ c h. let few = fits .cores in let who : core ≡ c = cc in omega (arith, in-cores);
+            queue = good .phased .cores lock .queue;
+            last = good .phased .cores lock .last;
+          }
       cores-after (Some d) e =
-          record
-            { holder = λ c h. good .phased .cores lock .holder c (e ∙ h);
-              queue = λ c h. ⊎-elim (λ p. good .phased .cores lock .queue c p) (λ p. let few = fits .cores in let who : c ≡ core = ⊎-elim (λ q. q) (λ q. absurd q) p in omega (arith, in-cores)) (in-parts c (l .locks lock .queue) (core ∷ []) h);
-              last = good .phased .cores lock .last
-            }
+          record {
+            holder = λ c h. good .phased .cores lock .holder c (e ∙ h);
+            queue = λ c h. ⊎-elim (λ p. good .phased .cores lock .queue c p) (λ p. let few = fits .cores in let who : c ≡ core = ⊎-elim (λ q. q) (λ q. absurd q) p in omega (arith, in-cores)) (in-parts c (l .locks lock .queue) (core ∷ []) h);
+            last = good .phased .cores lock .last;
+          }
 
   release-good : (core lock : ℕ) → core < f .cores → l .locks lock .holder ≡ Some core → Changes (changes f l (call.Release core lock)) g g′ → Good b now (after b g s (call.Release core lock)) g′
   release-good core lock in-cores held ch =
       let few = fits .cores in
       let k = released-guarded (l .locks lock .queue) (l .locks lock) core g g′ refl held (omega arith) (good .phased .cores lock) ch in
-      record
-        { sound = locks-sound lock (released-to (l .locks lock .queue) core);
-          phased = locks-phased lock (released-to (l .locks lock .queue) core) (k .0) (k .1) (cores-after (l .locks lock .queue) refl);
-          long = good .long
-        }
+      record {
+        sound = locks-sound lock (released-to (l .locks lock .queue) core);
+        phased = locks-phased lock (released-to (l .locks lock .queue) core) (k .0) (k .1) (cores-after (l .locks lock .queue) refl);
+        long = good .long;
+      }
     where
       cores-after : (q : List ℕ) → l .locks lock .queue ≡ q → Cores (released-to q core)
       cores-after [] e =
-          record
-            { holder = λ c h. let z : _≡_ {A = ℕ} 0 1 = cc in omega arith;
-              queue = λ c h. absurd h;
-              last = λ c h. let few = fits .cores in let who : core ≡ c = cc in omega (arith, in-cores)
-            }
+          record {
+            holder = λ c h. let z : _≡_ {A = ℕ} 0 1 = cc in omega arith;
+            queue = λ c h. absurd h;
+            last = λ c h. let few = fits .cores in let who : core ≡ c = cc in omega (arith, in-cores);
+          }
       cores-after (next ∷ more) e =
-          record
-            { holder = λ c h. good .phased .cores lock .queue c (rw e (inl (let who : c ≡ next = cc in who)));
-              queue = λ c h. good .phased .cores lock .queue c (rw e (inr h));
-              last = λ c h. let few = fits .cores in let who : core ≡ c = cc in omega (arith, in-cores)
-            }
+          record {
+            holder = λ c h. good .phased .cores lock .queue c (rw e (inl (let who : c ≡ next = cc in who)));
+            queue = λ c h. good .phased .cores lock .queue c (rw e (inr h));
+            last = λ c h. let few = fits .cores in let who : core ≡ c = cc in omega (arith, in-cores);
+          }
 
   -- ── a new phase ──
 
   phase-good : (plan : ℕ) → Good b now (after b g s (call.Phase plan)) g′
   phase-good plan =
       let k = fade-keeps f (l .plan) now (Stale f l) (Stale f (begun l plan)) (s .memory) (λ c w m p. good .phased .still w (p .by) m (p .stores)) (good .sound) in
-      record
-        { sound = k .sound;
-          phased =
-            record
-              { still = λ w d m e. both-ways false refl e;
-                covered = λ w d lock m e. absurd (both-ways false refl e);
-                cores = λ lock. record { holder = good .phased .cores lock .holder; queue = good .phased .cores lock .queue; last = λ c h. let z : _≡_ {A = ℕ} 0 1 = cc in omega arith }
-              };
-          long = rw (k .long) (good .long)
-        }
+      record {
+        sound = k .sound;
+        phased =
+            record {
+              still = λ w d m e. both-ways false refl e;
+              covered = λ w d lock m e. absurd (both-ways false refl e);
+              cores = λ lock. record { holder = good .phased .cores lock .holder; queue = good .phased .cores lock .queue; last = λ c h. let z : _≡_ {A = ℕ} 0 1 = cc in omega arith };
+            };
+        long = rw (k .long) (good .long);
+      }
 
   -- ── every call ──
 

@@ -20,3 +20,4 @@ pub mod Own
 pub mod Order
 pub mod Decides
 pub mod Instance
+pub mod Examples

@@ -106,40 +106,40 @@ module _ (f : Five) (now : ℕ → Word) (stale : ℕ → ℕ → Type 0) where
 
     pub dropped-sound : Sound f now stale (with-copy m c i invalid)
     dropped-sound =
-        record
-          { owned = λ w d e. grind (arith, upd2-cases (m .copies) c i invalid d (slot-of f w), s .owned w d e, owned-free w d e);
-            mine = λ d j w x e. grind (arith, upd2-cases (m .copies) c i invalid d j, s .mine d j w x);
-            placed = λ d j w x e. grind (arith, upd2-cases (m .copies) c i invalid d j, s .placed d j w x);
-            inside = λ d j w x e. grind (arith, upd2-cases (m .copies) c i invalid d j, s .inside d j w x);
-            ranged = λ d j w x e. grind (arith, upd2-cases (m .copies) c i invalid d j, s .ranged d j w x);
-            home = s .home;
-            seen = λ d w x e. ⊎-elim (λ p. let z : invalid ≡ valid w x = sym (p .2) ∙ e in grind arith) (λ p. s .seen d w x (sym (p .1) ∙ e)) (upd2-cases (m .copies) c i invalid d (slot-of f w))
-          }
+        record {
+          owned = λ w d e. grind (arith, upd2-cases (m .copies) c i invalid d (slot-of f w), s .owned w d e, owned-free w d e);
+          mine = λ d j w x e. grind (arith, upd2-cases (m .copies) c i invalid d j, s .mine d j w x);
+          placed = λ d j w x e. grind (arith, upd2-cases (m .copies) c i invalid d j, s .placed d j w x);
+          inside = λ d j w x e. grind (arith, upd2-cases (m .copies) c i invalid d j, s .inside d j w x);
+          ranged = λ d j w x e. grind (arith, upd2-cases (m .copies) c i invalid d j, s .ranged d j w x);
+          home = s .home;
+          seen = λ d w x e. ⊎-elim (λ p. let z : invalid ≡ valid w x = sym (p .2) ∙ e in grind arith) (λ p. s .seen d w x (sym (p .1) ∙ e)) (upd2-cases (m .copies) c i invalid d (slot-of f w));
+        }
 
     pub filled-sound : (v : ℕ) → i ≡ slot-of f v → Sound f now stale (with-copy m c i (valid v (now v)))
     filled-sound v here =
-        record
-          { owned = λ w d e. grind (arith, upd2-cases (m .copies) c i (valid v (now v)) d (slot-of f w), s .owned w d e, owned-free w d e);
-            mine = λ d j w x e. grind (arith, upd2-cases (m .copies) c i (valid v (now v)) d j, s .mine d j w x);
-            placed = λ d j w x e. grind (arith, upd2-cases (m .copies) c i (valid v (now v)) d j, s .placed d j w x);
-            inside = λ d j w x e. grind (arith, upd2-cases (m .copies) c i (valid v (now v)) d j, s .inside d j w x);
-            ranged = λ d j w x e. grind (arith, upd2-cases (m .copies) c i (valid v (now v)) d j, s .ranged d j w x);
-            home = s .home;
-            seen = λ d w x e. ⊎-elim (λ p. let z : valid v (now v) ≡ valid w x = sym (p .2) ∙ e in let r : v ≡ w = cc in let t : now v ≡ x = cc in inl (sym t ∙ ap now r)) (λ p. s .seen d w x (sym (p .1) ∙ e)) (upd2-cases (m .copies) c i (valid v (now v)) d (slot-of f w))
-          }
+        record {
+          owned = λ w d e. grind (arith, upd2-cases (m .copies) c i (valid v (now v)) d (slot-of f w), s .owned w d e, owned-free w d e);
+          mine = λ d j w x e. grind (arith, upd2-cases (m .copies) c i (valid v (now v)) d j, s .mine d j w x);
+          placed = λ d j w x e. grind (arith, upd2-cases (m .copies) c i (valid v (now v)) d j, s .placed d j w x);
+          inside = λ d j w x e. grind (arith, upd2-cases (m .copies) c i (valid v (now v)) d j, s .inside d j w x);
+          ranged = λ d j w x e. grind (arith, upd2-cases (m .copies) c i (valid v (now v)) d j, s .ranged d j w x);
+          home = s .home;
+          seen = λ d w x e. ⊎-elim (λ p. let z : valid v (now v) ≡ valid w x = sym (p .2) ∙ e in let r : v ≡ w = cc in let t : now v ≡ x = cc in inl (sym t ∙ ap now r)) (λ p. s .seen d w x (sym (p .1) ∙ e)) (upd2-cases (m .copies) c i (valid v (now v)) d (slot-of f w));
+        }
 
 -- more copies may count as stale
 pub weakened : (f : Five) (now : ℕ → Word) (stale worse : ℕ → ℕ → Type 0) (m : Memory) → ((c w : ℕ) → stale c w → worse c w) → Sound f now stale m → Sound f now worse m
 weakened f now stale worse m more s =
-    record
-      { owned = s .owned;
-        mine = s .mine;
-        placed = s .placed;
-        inside = s .inside;
-        ranged = s .ranged;
-        home = s .home;
-        seen = λ c w x e. ⊎-elim (λ p. inl p) (λ p. inr (more c w p)) (s .seen c w x e)
-      }
+    record {
+      owned = s .owned;
+      mine = s .mine;
+      placed = s .placed;
+      inside = s .inside;
+      ranged = s .ranged;
+      home = s .home;
+      seen = λ c w x e. ⊎-elim (λ p. inl p) (λ p. inr (more c w p)) (s .seen c w x e);
+    }
 
 -- the same, but for one word that nobody has registered: what is left of it when its owner has lost its copy
 pub record Loose (f : Five) (now : ℕ → Word) (stale : ℕ → ℕ → Type 0) (word : ℕ) (m : Memory) : Type 0 where
@@ -156,30 +156,30 @@ module _ (f : Five) (now : ℕ → Word) (stale : ℕ → ℕ → Type 0) (word 
   -- a word without an owner is registered nowhere
   pub loose-unowned : (m : Memory) → m .owners word ≡ None → Sound f now stale m → Loose f now stale word m
   loose-unowned m none s =
-      record
-        { owned = λ w c _ e. s .owned w c e;
-          nobody = λ c i x e. grind (arith, s .mine c i word x e);
-          mine = s .mine;
-          placed = s .placed;
-          inside = s .inside;
-          ranged = s .ranged;
-          home = λ w _ e. s .home w e;
-          seen = s .seen
-        }
+      record {
+        owned = λ w c _ e. s .owned w c e;
+        nobody = λ c i x e. grind (arith, s .mine c i word x e);
+        mine = s .mine;
+        placed = s .placed;
+        inside = s .inside;
+        ranged = s .ranged;
+        home = λ w _ e. s .home w e;
+        seen = s .seen;
+      }
 
   -- nor is one whose owner has lost its copy
   pub loose-taken : (m : Memory) (d : ℕ) → m .owners word ≡ Some d → Sound f now stale m → Loose f now stale word (with-copy m d (slot-of f word) invalid)
   loose-taken m d own s =
-      record
-        { owned = λ w c n e. grind (arith, upd2-cases (m .copies) d (slot-of f word) invalid c (slot-of f w), s .owned w c e, s .owned word d own);
-          nobody = λ c i x e. grind (arith, upd2-cases (m .copies) d (slot-of f word) invalid c i, s .mine c i word x, s .placed c i word x);
-          mine = λ c i w x e. grind (arith, upd2-cases (m .copies) d (slot-of f word) invalid c i, s .mine c i w x);
-          placed = λ c i w x e. grind (arith, upd2-cases (m .copies) d (slot-of f word) invalid c i, s .placed c i w x);
-          inside = λ c i w x e. grind (arith, upd2-cases (m .copies) d (slot-of f word) invalid c i, s .inside c i w x);
-          ranged = λ c i w x e. grind (arith, upd2-cases (m .copies) d (slot-of f word) invalid c i, s .ranged c i w x);
-          home = λ w _ e. s .home w e;
-          seen = λ c w x e. ⊎-elim (λ p. let z : invalid ≡ valid w x = sym (p .2) ∙ e in grind arith) (λ p. s .seen c w x (sym (p .1) ∙ e)) (upd2-cases (m .copies) d (slot-of f word) invalid c (slot-of f w))
-        }
+      record {
+        owned = λ w c n e. grind (arith, upd2-cases (m .copies) d (slot-of f word) invalid c (slot-of f w), s .owned w c e, s .owned word d own);
+        nobody = λ c i x e. grind (arith, upd2-cases (m .copies) d (slot-of f word) invalid c i, s .mine c i word x, s .placed c i word x);
+        mine = λ c i w x e. grind (arith, upd2-cases (m .copies) d (slot-of f word) invalid c i, s .mine c i w x);
+        placed = λ c i w x e. grind (arith, upd2-cases (m .copies) d (slot-of f word) invalid c i, s .placed c i w x);
+        inside = λ c i w x e. grind (arith, upd2-cases (m .copies) d (slot-of f word) invalid c i, s .inside c i w x);
+        ranged = λ c i w x e. grind (arith, upd2-cases (m .copies) d (slot-of f word) invalid c i, s .ranged c i w x);
+        home = λ w _ e. s .home w e;
+        seen = λ c w x e. ⊎-elim (λ p. let z : invalid ≡ valid w x = sym (p .2) ∙ e in grind arith) (λ p. s .seen c w x (sym (p .1) ∙ e)) (upd2-cases (m .copies) d (slot-of f word) invalid c (slot-of f w));
+      }
 
   -- the core that stores the word registers it, in a slot without a registered copy of another word
   module _ (m : Memory) (core : ℕ) (x : Word) (worse : ℕ → ℕ → Type 0) (more : (c w : ℕ) → stale c w → worse c w) (others : (c : ℕ) → (c ≡ core → ⊥) → worse c word) (below : core < f .cores) (within : word < length (m .page)) where
@@ -189,22 +189,22 @@ module _ (f : Five) (now : ℕ → Word) (stale : ℕ → ℕ → Type 0) (word 
 
     pub claimed-sound : Unregistered m core (slot-of f word) → Loose f now stale word m → Sound f (upd now word x) worse claimed-memory
     claimed-sound free s =
-        record
-          { owned = λ w d e. grind (arith, upd-cases (m .owners) word (Some core) w, upd-cases now word x w, upd2-cases (m .copies) core (slot-of f word) (registered word x) d (slot-of f w), s .owned w d, free w (now w));
-            mine = λ d j w y e. grind (arith, upd-cases (m .owners) word (Some core) w, upd2-cases (m .copies) core (slot-of f word) (registered word x) d j, s .mine d j w y, s .nobody d j y);
-            placed = λ d j w y e. grind (arith, upd2-cases (m .copies) core (slot-of f word) (registered word x) d j, s .placed d j w y);
-            inside = λ d j w y e. grind (arith, upd2-cases (m .copies) core (slot-of f word) (registered word x) d j, s .inside d j w y);
-            ranged = λ d j w y e. grind (arith, upd2-cases (m .copies) core (slot-of f word) (registered word x) d j, s .ranged d j w y);
-            home = λ w e. grind (arith, upd-cases (m .owners) word (Some core) w, upd-cases now word x w, s .home w);
-            seen = seen-claimed
-          }
+        record {
+          owned = λ w d e. grind (arith, upd-cases (m .owners) word (Some core) w, upd-cases now word x w, upd2-cases (m .copies) core (slot-of f word) (registered word x) d (slot-of f w), s .owned w d, free w (now w));
+          mine = λ d j w y e. grind (arith, upd-cases (m .owners) word (Some core) w, upd2-cases (m .copies) core (slot-of f word) (registered word x) d j, s .mine d j w y, s .nobody d j y);
+          placed = λ d j w y e. grind (arith, upd2-cases (m .copies) core (slot-of f word) (registered word x) d j, s .placed d j w y);
+          inside = λ d j w y e. grind (arith, upd2-cases (m .copies) core (slot-of f word) (registered word x) d j, s .inside d j w y);
+          ranged = λ d j w y e. grind (arith, upd2-cases (m .copies) core (slot-of f word) (registered word x) d j, s .ranged d j w y);
+          home = λ w e. grind (arith, upd-cases (m .owners) word (Some core) w, upd-cases now word x w, s .home w);
+          seen = seen-claimed;
+        }
       where
         seen-claimed : (d w : ℕ) (y : Word) → claimed-memory .copies d (slot-of f w) ≡ valid w y → (y ≡ upd now word x w) ⊎ worse d w
         seen-claimed d w y e =
             ⊎-elim
             (λ p. let z : registered word x ≡ valid w y = sym (p .2) ∙ e in grind arith)
             (λ p. ⊎-elim
-                (λ q. inr (let away : d ≡ core → ⊥ = λ h. p .0 h (ap (slot-of f) (q .0)) in grind (arith, others d away, q .0)))
-                (λ q. ⊎-elim (λ r. inl (r ∙ sym (q .1))) (λ r. inr (more d w r)) (s .seen d w y (sym (p .1) ∙ e)))
-                (upd-cases now word x w))
+            (λ q. inr (let away : d ≡ core → ⊥ = λ h. p .0 h (ap (slot-of f) (q .0)) in grind (arith, others d away, q .0)))
+            (λ q. ⊎-elim (λ r. inl (r ∙ sym (q .1))) (λ r. inr (more d w r)) (s .seen d w y (sym (p .1) ∙ e)))
+            (upd-cases now word x w))
             (upd2-cases (m .copies) core (slot-of f word) (registered word x) d (slot-of f w))

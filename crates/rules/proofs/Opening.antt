@@ -46,39 +46,39 @@ module _ (f : Five) (page : List Word) (ok : checked f ≡ Ok f) where
       let p4 = passed (strip-pass (f .words) (f .strip)) _ Strip f (p3 .1) in
       let p5 = passed (allowance-pass (f .allowance)) _ Allowance f (p4 .1) in
       let few = leb-true (f .words) 4096 (and-parts (leb 1 (f .words)) (leb (f .words) 4096) (p3 .0) .1) in
-      record
-        { cores = leb-true (f .cores) 8 (and-parts (leb 1 (f .cores)) (leb (f .cores) 8) (p1 .0) .1);
-          size = omega arith;
-          slots = leb-true 1 (f .slots) (and-parts (leb 1 (f .slots)) (leb (f .slots) 64) (p2 .0) .0);
-          allowance = leb-true (f .allowance) 1000000 (and-parts (leb 1 (f .allowance)) (leb (f .allowance) 1000000) (p5 .0) .1)
-        }
+      record {
+        cores = leb-true (f .cores) 8 (and-parts (leb 1 (f .cores)) (leb (f .cores) 8) (p1 .0) .1);
+        size = omega arith;
+        slots = leb-true 1 (f .slots) (and-parts (leb 1 (f .slots)) (leb (f .slots) 64) (p2 .0) .0);
+        allowance = leb-true (f .allowance) 1000000 (and-parts (leb 1 (f .allowance)) (leb (f .allowance) 1000000) (p5 .0) .1);
+      }
 
   opening-good : (g : Sets) → Good (setting f page) (λ w. getD (opened (size-of f page) page) w blank) (opening f page) g
   opening-good g =
-      record
-        { sound =
-            record
-              { owned = λ w c e. let z : _≡_ {A = ℕ} 0 1 = cc in let no-way : ⊥ = omega arith in absurd no-way;
-                mine = λ c i w x e. grind arith;
-                placed = λ c i w x e. grind arith;
-                inside = λ c i w x e. grind arith;
-                ranged = λ c i w x e. grind arith;
-                home = λ w e. refl;
-                seen = λ c w x e. grind arith
-              };
-          phased =
-            record
-              { still = λ w d m e. both-ways false refl e;
-                covered = λ w d lock m e. absurd (both-ways false refl e);
-                cores = λ lock. record { holder = λ c e. let z : _≡_ {A = ℕ} 0 1 = cc in omega arith; queue = λ c h. absurd h; last = λ c e. let z : _≡_ {A = ℕ} 0 1 = cc in omega arith }
-              };
-          long = rw opened-length (omega arith)
-        }
+      record {
+        sound =
+            record {
+              owned = λ w c e. let z : _≡_ {A = ℕ} 0 1 = cc in let no-way : ⊥ = omega arith in absurd no-way;
+              mine = λ c i w x e. grind arith;
+              placed = λ c i w x e. grind arith;
+              inside = λ c i w x e. grind arith;
+              ranged = λ c i w x e. grind arith;
+              home = λ w e. refl;
+              seen = λ c w x e. grind arith;
+            };
+        phased =
+            record {
+              still = λ w d m e. both-ways false refl e;
+              covered = λ w d lock m e. absurd (both-ways false refl e);
+              cores = λ lock. record { holder = λ c e. let z : _≡_ {A = ℕ} 0 1 = cc in omega arith; queue = λ c h. absurd h; last = λ c e. let z : _≡_ {A = ℕ} 0 1 = cc in omega arith };
+            };
+        long = rw opened-length (omega arith);
+      }
 
   pub opening-moment : (g : Sets) → Moment (setting f page) fits (λ w. getD page w blank) [] (opening f page) g
   opening-moment g =
-      record
-        { now = λ w. getD (opened (size-of f page) page) w blank;
-          good = opening-good g;
-          told = record { ledger = refl; counts = λ w c. refl; fresh = λ w l. opened-at (size-of f page) page w l; lawful = λ w s e. grind arith }
-        }
+      record {
+        now = λ w. getD (opened (size-of f page) page) w blank;
+        good = opening-good g;
+        told = record { ledger = refl; counts = λ w c. refl; fresh = λ w l. opened-at (size-of f page) page w l; lawful = λ w s e. grind arith };
+      }

@@ -62,18 +62,18 @@ accesses b l (call.Load core word) a e ok =
     let p = load-passes b l core word ok in
     let eq : record { core = core; word = word } ≡ a = cc in
     subst (λ (x : Wanted). Accesses (b .figures) l (x .core) (x .word)) eq
-    record
-      { by-holder = λ lock m. not-shut-out l (mode-of (b .figures) (l .plan) word) core lock m (p .open-to);
-        alone = λ m. no-race Store (earliest Store core word (l .accesses)) (ap (λ (x : Mode). load-race x (l .accesses) core word) (sym m) ∙ p .unraced)
-      }
+    record {
+      by-holder = λ lock m. not-shut-out l (mode-of (b .figures) (l .plan) word) core lock m (p .open-to);
+      alone = λ m. no-race Store (earliest Store core word (l .accesses)) (ap (λ (x : Mode). load-race x (l .accesses) core word) (sym m) ∙ p .unraced);
+    }
 accesses b l (call.Store core word value) a e ok =
     let p = store-passes b l core word value ok in
     let eq : record { core = core; word = word } ≡ a = cc in
     subst (λ (x : Wanted). Accesses (b .figures) l (x .core) (x .word)) eq
-    record
-      { by-holder = λ lock m. not-shut-out l (mode-of (b .figures) (l .plan) word) core lock m (p .open-to);
-        alone = λ m. no-race Store (earliest Store core word (l .accesses)) (first-none _ _ (ap (λ (x : Mode). store-race x (l .accesses) core word) (sym m) ∙ p .unraced) .0)
-      }
+    record {
+      by-holder = λ lock m. not-shut-out l (mode-of (b .figures) (l .plan) word) core lock m (p .open-to);
+      alone = λ m. no-race Store (earliest Store core word (l .accesses)) (first-none _ _ (ap (λ (x : Mode). store-race x (l .accesses) core word) (sym m) ∙ p .unraced) .0);
+    }
 accesses b l (call.Evict core word) a e ok = grind arith
 accesses b l (call.Acquire core lock) a e ok = grind arith
 accesses b l (call.Release core lock) a e ok = grind arith
@@ -194,7 +194,7 @@ same-releasers r q order c lock below X Y place holds-x holds-y =
     same-beginning c (releasers lock (X .before)) (releasers lock (Y .before)) (one .0) (two .0)
     (sym (one .1) ∙ (order .holders lock below ∙ two .1))
     (releases-own c lock (X .before) (before-ok (r .history) (ok-r .accepts) X)
-     ∙ (ap (own-releases c lock) place ∙ sym (releases-own c lock (Y .before) (before-ok (q .history) (ok-q .accepts) Y))))
+    ∙ (ap (own-releases c lock) place ∙ sym (releases-own c lock (Y .before) (before-ok (q .history) (ok-q .accepts) Y))))
 
 module _ (r q : Ran) (order : Same-order r q) (S T : Spot (r .history)) (S′ T′ : Spot (q .history)) (s : Written) (a : Wanted) (stores : store-of (S .event .call) ≡ Some s) (uses : access-of (T .event .call) ≡ Some a) (one-word : s .word ≡ a .word) (twin-s : Twins (s .core) S S′) (twin-t : Twins (a .core) T T′) (M : History) (first : T .before ≡ S .before ++ (S .event ∷ M)) where
   stores-concerns : concerns (s .core) (S .event .call) ≡ true
@@ -309,13 +309,13 @@ module _ (r q : Ran) (order : Same-order r q) (S T : Spot (r .history)) (S′ T�
         in-s =
             ap (λ (l : Ledger). stored-in (l .accesses) (s .core) (a .word)) entered-here
             ∙ (ap (λ (w : ℕ). stored-in (entered (ledger-of (S .before)) (call.Store (s .core) (s .word) (s .value)) .accesses) (s .core) w) (sym one-word)
-               ∙ stored-now (ledger-of (S .before) .accesses) (s .core) (s .word))
+            ∙ stored-now (ledger-of (S .before) .accesses) (s .core) (s .word))
 
         among : stored-in (ledger-of (T .before) .accesses) (s .core) (a .word) ≡ true
         among =
             ap (λ (h : History). stored-in (ledger-of h .accesses) (s .core) (a .word)) first
             ∙ (ap (λ (l : Ledger). stored-in (l .accesses) (s .core) (a .word)) (folded-append entered-by _ (S .before) (S .event ∷ M))
-               ∙ stays-stored (s .core) (a .word) (entered-by (ledger-of (S .before)) (S .event)) M (both-empty (plans-in (plan-of (S .event .call))) (plans-of M) no-plans .1) in-s)
+            ∙ stays-stored (s .core) (a .word) (entered-by (ledger-of (S .before)) (S .event)) M (both-empty (plans-in (plan-of (S .event .call))) (plans-of M) no-plans .1) in-s)
 
     -- in a locked strip both accesses would be by the one holder
     not-locked : (lock : ℕ) → mode ≡ locked lock → ⊥

@@ -174,7 +174,7 @@ plan-on l (e ∷ h) ok =
     let here : entered-by l e ≡ entered l (e .call) = cond-true (accepted e) (entered l (e .call)) l (ap (λ (o : Option Refusal). not (isSome o)) (ok .0)) in
     plan-on (entered-by l e) h (ok .1)
     ∙ (ap (λ (k : Ledger). last-plan (k .plan) (plans-of h)) here
-       ∙ (ap (λ (p : ℕ). last-plan p (plans-of h)) (plan-after l (e .call)) ∙ sym (last-append (l .plan) (plans-in (plan-of (e .call))) (plans-of h))))
+    ∙ (ap (λ (p : ℕ). last-plan p (plans-of h)) (plan-after l (e .call)) ∙ sym (last-append (l .plan) (plans-in (plan-of (e .call))) (plans-of h))))
 
 pub plan-told : (h : History) → All-accepted h → ledger-of h .plan ≡ last-plan 0 (plans-of h)
 plan-told h ok = plan-on (ledger-of []) h ok
@@ -188,11 +188,11 @@ pub record Found (c : ℕ) (k : Call) (mine : List Call) (h : History) : Type 0 
 
 found-under : (c : ℕ) (k : Call) (mine : List Call) (e : Event) (h : History) (front : List Call) → cond (concerns c (e .call)) (e .call ∷ []) [] ≡ front → Found c k mine h → Found c k (front ++ mine) (e ∷ h)
 found-under c k mine e h front q p =
-    record
-      { spot = record { before = e ∷ p .spot .before; event = p .spot .event; after = p .spot .after; stands = ap (λ (x : History). e ∷ x) (p .spot .stands) };
-        place = (λ i. q i ++ p .place i);
-        call = p .call
-      }
+    record {
+      spot = record { before = e ∷ p .spot .before; event = p .spot .event; after = p .spot .after; stands = ap (λ (x : History). e ∷ x) (p .spot .stands) };
+      place = (λ i. q i ++ p .place i);
+      call = p .call;
+    }
 
 pub found : (c : ℕ) (h : History) (mine : List Call) (k : Call) (rest : List Call) → calls-of c h ≡ mine ++ (k ∷ rest) → Found c k mine h
 found c [] mine k rest e = absurd (never mine e)

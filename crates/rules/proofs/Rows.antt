@@ -58,11 +58,11 @@ module _ (f : Five) (now : ℕ → Word) (stale : ℕ → ℕ → Type 0) where
 
   filled-loads : (m n : Memory) (core word : ℕ) (x : Word) (source : ℕ) → x ≡ now word → Unregistered n core (slot-of f word) → Same-length m n → Sound f now stale n → Loads m word (effect.filled f n core word x source)
   filled-loads m n core word x source e free len s =
-      record
-        { fresh = e;
-          sound = subst (λ (y : Word). Sound f now stale (with-copy n core (slot-of f word) (valid word y))) (sym e) (filled-sound f now stale n core (slot-of f word) free s word refl);
-          long = len
-        }
+      record {
+        fresh = e;
+        sound = subst (λ (y : Word). Sound f now stale (with-copy n core (slot-of f word) (valid word y))) (sym e) (filled-sound f now stale n core (slot-of f word) free s word refl);
+        long = len;
+      }
 
   fetch-into-loads : (m n : Memory) (core word : ℕ) → Unregistered n core (slot-of f word) → Same-length m n → Sound f now stale n → Loads m word (fetch-into f n core word)
   fetch-into-loads m n core word free len s = go (n .owners word) refl
@@ -143,24 +143,24 @@ module _ (f : Five) (now : ℕ → Word) (stale worse : ℕ → ℕ → Type 0) 
   -- a registered copy takes the new word in place
   replaced-keeps : (m : Memory) (y : Word) → m .copies core (slot-of f word) ≡ registered word y → Sound f now stale m → Sound f (upd now word x) worse (with-copy m core (slot-of f word) (registered word x))
   replaced-keeps m y here s =
-      record
-        { owned = λ w d e. grind (arith, upd-cases now word x w, upd2-cases (m .copies) core (slot-of f word) (registered word x) d (slot-of f w), s .owned w d e, s .mine core (slot-of f word) word y here);
-          mine = λ d j w z e. grind (arith, upd2-cases (m .copies) core (slot-of f word) (registered word x) d j, s .mine d j w z, s .mine core (slot-of f word) word y here);
-          placed = λ d j w z e. grind (arith, upd2-cases (m .copies) core (slot-of f word) (registered word x) d j, s .placed d j w z);
-          inside = λ d j w z e. grind (arith, upd2-cases (m .copies) core (slot-of f word) (registered word x) d j, s .inside d j w z, s .inside core (slot-of f word) word y here);
-          ranged = λ d j w z e. grind (arith, upd2-cases (m .copies) core (slot-of f word) (registered word x) d j, s .ranged d j w z);
-          home = λ w e. grind (arith, upd-cases now word x w, s .home w e, s .mine core (slot-of f word) word y here);
-          seen = seen-replaced
-        }
+      record {
+        owned = λ w d e. grind (arith, upd-cases now word x w, upd2-cases (m .copies) core (slot-of f word) (registered word x) d (slot-of f w), s .owned w d e, s .mine core (slot-of f word) word y here);
+        mine = λ d j w z e. grind (arith, upd2-cases (m .copies) core (slot-of f word) (registered word x) d j, s .mine d j w z, s .mine core (slot-of f word) word y here);
+        placed = λ d j w z e. grind (arith, upd2-cases (m .copies) core (slot-of f word) (registered word x) d j, s .placed d j w z);
+        inside = λ d j w z e. grind (arith, upd2-cases (m .copies) core (slot-of f word) (registered word x) d j, s .inside d j w z, s .inside core (slot-of f word) word y here);
+        ranged = λ d j w z e. grind (arith, upd2-cases (m .copies) core (slot-of f word) (registered word x) d j, s .ranged d j w z);
+        home = λ w e. grind (arith, upd-cases now word x w, s .home w e, s .mine core (slot-of f word) word y here);
+        seen = seen-replaced;
+      }
     where
       seen-replaced : (d w : ℕ) (z : Word) → upd2 (m .copies) core (slot-of f word) (registered word x) d (slot-of f w) ≡ valid w z → (z ≡ upd now word x w) ⊎ worse d w
       seen-replaced d w z e =
           ⊎-elim
           (λ p. let q : registered word x ≡ valid w z = sym (p .2) ∙ e in grind arith)
           (λ p. ⊎-elim
-              (λ q. inr (let away : d ≡ core → ⊥ = λ h. p .0 h (ap (slot-of f) (q .0)) in grind (arith, others d away, q .0)))
-              (λ q. ⊎-elim (λ r. inl (r ∙ sym (q .1))) (λ r. inr (more d w r)) (s .seen d w z (sym (p .1) ∙ e)))
-              (upd-cases now word x w))
+          (λ q. inr (let away : d ≡ core → ⊥ = λ h. p .0 h (ap (slot-of f) (q .0)) in grind (arith, others d away, q .0)))
+          (λ q. ⊎-elim (λ r. inl (r ∙ sym (q .1))) (λ r. inr (more d w r)) (s .seen d w z (sym (p .1) ∙ e)))
+          (upd-cases now word x w))
           (upd2-cases (m .copies) core (slot-of f word) (registered word x) d (slot-of f w))
 
   pub store-keeps : (m : Memory) → word < length (m .page) → Sound f now stale m → Keeps f (upd now word x) worse m (effect.store f m core word x)

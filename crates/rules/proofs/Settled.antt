@@ -45,10 +45,10 @@ settled-page r settled w inside =
     let p = reached r (r .history) [] (sym (append-nil (r .history))) in
     let none : p .state .memory .owners w ≡ None = ap (λ (s : State). s .memory .owners w) (p .chain) ∙ settled-unowned r settled w in
     let home : page-word (r .final .memory) w ≡ p .moment .now w = ap (λ (s : State). page-word (s .memory) w) (sym (p .chain)) ∙ p .moment .good .sound .home w none in
-    record
-      { fresh = subst (λ (x : Word). Fresh (last-store w (r .history)) (old-word r w) x) (sym home) (p .moment .told .fresh w inside);
-        lawful = λ s e. p .moment .told .lawful w s e .0
-      }
+    record {
+      fresh = subst (λ (x : Word). Fresh (last-store w (r .history)) (old-word r w) x) (sym home) (p .moment .told .fresh w inside);
+      lawful = λ s e. p .moment .told .lawful w s e .0;
+    }
 
 -- only the value of the opening word counts
 pub fresh-alike : (o : Option Told-store) (old other x : Word) → old .value ≡ other .value → Fresh o old x → Fresh o other x
@@ -75,9 +75,10 @@ same-store (Some s) (Some t) old x a b p q =
     λ i. Some (record { core = parts .0 i; count = parts .1 i; value = (sym (p .0) ∙ q .0) i })
 
 pub settled-pages : (r q : Ran) → Settled-pages r q
-settled-pages r q alike settled-r settled-q w inside =
-    ( (λ e. same-store (last-store w (r .history)) (last-store w (q .history)) (old-word q w) (page-word (q .final .memory) w) (one .lawful) (two .lawful) (subst (λ (x : Word). Fresh (last-store w (r .history)) (old-word q w) x) e shifted) (two .fresh)),
-      (λ e. fresh-same (last-store w (q .history)) (old-word q w) (page-word (r .final .memory) w) (page-word (q .final .memory) w) (subst (λ (o : Option Told-store). Fresh o (old-word q w) (page-word (r .final .memory) w)) e shifted) (two .fresh)) )
+settled-pages r q alike settled-r settled-q w inside = (
+  (λ e. same-store (last-store w (r .history)) (last-store w (q .history)) (old-word q w) (page-word (q .final .memory) w) (one .lawful) (two .lawful) (subst (λ (x : Word). Fresh (last-store w (r .history)) (old-word q w) x) e shifted) (two .fresh)),
+  (λ e. fresh-same (last-store w (q .history)) (old-word q w) (page-word (r .final .memory) w) (page-word (q .final .memory) w) (subst (λ (o : Option Told-store). Fresh o (old-word q w) (page-word (r .final .memory) w)) e shifted) (two .fresh)),
+)
   where
     one : Page-told r w
     one = settled-page r settled-r w inside

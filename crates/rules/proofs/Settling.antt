@@ -78,19 +78,19 @@ module _ (f : Five) (now : ℕ → Word) (stale : ℕ → ℕ → Type 0) where
 -- a phase call drops what could be stale: what was not read-only in the phase that ends
 pub fade-keeps : (f : Five) (plan : ℕ) (now : ℕ → Word) (stale none : ℕ → ℕ → Type 0) (m : Memory) → ((c w : ℕ) → mode-of f plan w ≡ read-only → stale c w → ⊥) → Sound f now stale m → Keeps f now none m (effect.fade f plan m)
 fade-keeps f plan now stale none m still s =
-    record
-      { sound =
-          record
-            { owned = λ w c e. ap (faded f plan) (s .owned w c e);
-              mine = λ c i w x e. s .mine c i w x (was-registered (m .copies c i) w x e);
-              placed = λ c i w x e. s .placed c i w x (was-registered (m .copies c i) w x e);
-              inside = λ c i w x e. s .inside c i w x (was-registered (m .copies c i) w x e);
-              ranged = λ c i w x e. s .ranged c i w x (was-registered (m .copies c i) w x e);
-              home = s .home;
-              seen = λ c w x e. stayed c w x (m .copies c (slot-of f w)) refl e
-            };
-        long = refl
-      }
+    record {
+      sound =
+          record {
+            owned = λ w c e. ap (faded f plan) (s .owned w c e);
+            mine = λ c i w x e. s .mine c i w x (was-registered (m .copies c i) w x e);
+            placed = λ c i w x e. s .placed c i w x (was-registered (m .copies c i) w x e);
+            inside = λ c i w x e. s .inside c i w x (was-registered (m .copies c i) w x e);
+            ranged = λ c i w x e. s .ranged c i w x (was-registered (m .copies c i) w x e);
+            home = s .home;
+            seen = λ c w x e. stayed c w x (m .copies c (slot-of f w)) refl e;
+          };
+      long = refl;
+    }
   where
     was-registered : (k : Copy) (w : ℕ) (x : Word) → faded f plan k ≡ registered w x → k ≡ registered w x
     was-registered invalid w x e = e

@@ -44,10 +44,10 @@ accepted-tells (Some r) e = grind arith
 
 pub legal : (r : Ran) → Unrefused (r .history) → Legal (setting (r .figures) (r .page)) (r .history)
 legal r ok =
-    record
-      { accepts = λ before e after split. accepted-tells (refused-with (e .answer)) (ok before e after split);
-        passes = λ before e after split. sym (refusals-told r before e after split) ∙ accepted-tells (refused-with (e .answer)) (ok before e after split)
-      }
+    record {
+      accepts = λ before e after split. accepted-tells (refused-with (e .answer)) (ok before e after split);
+      passes = λ before e after split. sym (refusals-told r before e after split) ∙ accepted-tells (refused-with (e .answer)) (ok before e after split);
+    }
 
 -- the ledger after an accepted event
 pub ledger-push : (before : History) (e : Event) → refused-with (e .answer) ≡ None → ledger-of (before ++ (e ∷ [])) ≡ entered (ledger-of before) (e .call)
@@ -74,27 +74,27 @@ acquired-turn : (o : Option ℕ) (lock : Lock) (core : ℕ) (got rs : List ℕ) 
 acquired-turn None lock core got rs e t =
     let free : lock .queue ≡ [] = t .nobody e in
     let none : line lock ≡ [] = (λ i. held (e i) ++ free i) in
-    record
-      { turns = ap (λ (k : List ℕ). k ++ (core ∷ [])) (t .turns ∙ (ap (λ (k : List ℕ). rs ++ k) none ∙ append-nil rs)) ∙ ap (λ (k : List ℕ). rs ++ (core ∷ k)) (sym free);
-        nobody = λ n. grind arith
-      }
+    record {
+      turns = ap (λ (k : List ℕ). k ++ (core ∷ [])) (t .turns ∙ (ap (λ (k : List ℕ). rs ++ k) none ∙ append-nil rs)) ∙ ap (λ (k : List ℕ). rs ++ (core ∷ k)) (sym free);
+      nobody = λ n. grind arith;
+    }
 acquired-turn (Some d) lock core got rs e t =
-    record
-      { turns = ap (λ (k : List ℕ). k ++ (core ∷ [])) (t .turns ∙ ap (λ (o : Option ℕ). rs ++ (held o ++ lock .queue)) e) ∙ append-assoc rs (d ∷ lock .queue) (core ∷ []);
-        nobody = λ n. grind arith
-      }
+    record {
+      turns = ap (λ (k : List ℕ). k ++ (core ∷ [])) (t .turns ∙ ap (λ (o : Option ℕ). rs ++ (held o ++ lock .queue)) e) ∙ append-assoc rs (d ∷ lock .queue) (core ∷ []);
+      nobody = λ n. grind arith;
+    }
 
 released-turn : (q : List ℕ) (lock : Lock) (core : ℕ) (got rs : List ℕ) → lock .queue ≡ q → lock .holder ≡ Some core → Turn lock got rs → Turn (released-to q core) got (rs ++ (core ∷ []))
 released-turn [] lock core got rs e h t =
-    record
-      { turns = t .turns ∙ ((λ i. rs ++ (held (h i) ++ e i)) ∙ sym (append-nil (rs ++ (core ∷ []))));
-        nobody = λ n. refl
-      }
+    record {
+      turns = t .turns ∙ ((λ i. rs ++ (held (h i) ++ e i)) ∙ sym (append-nil (rs ++ (core ∷ []))));
+      nobody = λ n. refl;
+    }
 released-turn (next ∷ more) lock core got rs e h t =
-    record
-      { turns = t .turns ∙ ((λ i. rs ++ (held (h i) ++ e i)) ∙ sym (append-assoc rs (core ∷ []) (next ∷ more)));
-        nobody = λ n. grind arith
-      }
+    record {
+      turns = t .turns ∙ ((λ i. rs ++ (held (h i) ++ e i)) ∙ sym (append-assoc rs (core ∷ []) (next ∷ more)));
+      nobody = λ n. grind arith;
+    }
 
 -- ── along a run ──
 
@@ -122,13 +122,13 @@ turn-entered l c lock got given by-holder t = go c refl
     go (call.Acquire core k) e =
         ⊎-elim
         (λ p. turn-like _ _ _ _ _ _ (p .1 ∙ ap (λ (j : ℕ). acquired-by (l .locks j .holder) (l .locks j) core) (sym (p .0))) (ap (λ (j : List ℕ). got ++ j) (cores-here lock k core (p .0))) (append-nil given)
-            (acquired-turn (l .locks lock .holder) (l .locks lock) core got given refl t))
+        (acquired-turn (l .locks lock .holder) (l .locks lock) core got given refl t))
         (λ p. turn-like _ _ _ _ _ _ (p .1) (ap (λ (j : List ℕ). got ++ j) (cores-there lock k core (p .0)) ∙ append-nil got) (append-nil given) t)
         (upd-cases (l .locks) k (acquired-by (l .locks k .holder) (l .locks k) core) lock)
     go (call.Release core k) e =
         ⊎-elim
         (λ p. turn-like _ _ _ _ _ _ (p .1 ∙ ap (λ (j : ℕ). released-to (l .locks j .queue) core) (sym (p .0))) (append-nil got) (ap (λ (j : List ℕ). given ++ j) (cores-here lock k core (p .0)))
-            (released-turn (l .locks lock .queue) (l .locks lock) core got given refl (ap (λ (j : ℕ). l .locks j .holder) (p .0) ∙ by-holder core k e) t))
+        (released-turn (l .locks lock .queue) (l .locks lock) core got given refl (ap (λ (j : ℕ). l .locks j .holder) (p .0) ∙ by-holder core k e) t))
         (λ p. turn-like _ _ _ _ _ _ (p .1) (append-nil got) (ap (λ (j : List ℕ). given ++ j) (cores-there lock k core (p .0)) ∙ append-nil given) t)
         (upd-cases (l .locks) k (released-to (l .locks k .queue) core) lock)
     go (call.Phase plan) e = record { turns = unmoved .turns; nobody = t .nobody }
@@ -148,5 +148,5 @@ turn b h ok lock first rest split = along h (λ p. Turn (ledger-of p .locks lock
         (joined-push _ before e ∙ ap (λ (o : Option Asked). acquirers lock before ++ cores-for lock o) (of-unrefused acquire-of e a))
         (joined-push _ before e ∙ ap (λ (o : Option Asked). releasers lock before ++ cores-for lock o) (of-unrefused release-of e a))
         (turn-entered (ledger-of before) (e .call) lock (acquirers lock before) (releasers lock before)
-         (λ core k c. holds-tells (ledger-of before .locks k .holder) core (release-passes b (ledger-of before) core k (sym (ap (refusal b (ledger-of before)) c) ∙ ok .passes before e after at) .1))
-         t)
+        (λ core k c. holds-tells (ledger-of before .locks k .holder) core (release-passes b (ledger-of before) core k (sym (ap (refusal b (ledger-of before)) c) ∙ ok .passes before e after at) .1))
+        t)

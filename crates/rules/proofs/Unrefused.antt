@@ -40,13 +40,13 @@ module _ (b : Setting) (l : Ledger) where
   pub load-passes : (core word : ℕ) → refusal b l (call.Load core word) ≡ None → Load-passes core word
   load-passes core word e =
       let n = none-of (rows b l (call.Load core word)) e in
-      record
-        { in-cores = leb-false (b .figures .cores) core (when-none (leb (b .figures .cores) core) NoCore (n .0));
-          in-size = leb-false (b .size) word (when-none (leb (b .size) word) OutsideBoard (n .1 .0));
-          awake = when-none (waits l core) Waiting (n .1 .1 .0);
-          open-to = when-none (shut-out l (mode word) core) NotHolder (n .1 .1 .1 .0);
-          unraced = n .1 .1 .1 .1 .0
-        }
+      record {
+        in-cores = leb-false (b .figures .cores) core (when-none (leb (b .figures .cores) core) NoCore (n .0));
+        in-size = leb-false (b .size) word (when-none (leb (b .size) word) OutsideBoard (n .1 .0));
+        awake = when-none (waits l core) Waiting (n .1 .1 .0);
+        open-to = when-none (shut-out l (mode word) core) NotHolder (n .1 .1 .1 .0);
+        unraced = n .1 .1 .1 .1 .0;
+      }
 
   pub record Store-passes (core word : ℕ) : Type 0 where
     pub in-cores : core < b .figures .cores
@@ -60,15 +60,15 @@ module _ (b : Setting) (l : Ledger) where
   pub store-passes : (core word value : ℕ) → refusal b l (call.Store core word value) ≡ None → Store-passes core word
   store-passes core word value e =
       let n = none-of (rows b l (call.Store core word value)) e in
-      record
-        { in-cores = leb-false (b .figures .cores) core (when-none (leb (b .figures .cores) core) NoCore (n .0));
-          in-size = leb-false (b .size) word (when-none (leb (b .size) word) OutsideBoard (n .1 .0));
-          awake = when-none (waits l core) Waiting (n .1 .1 .0);
-          writable = when-none (is-read-only (mode word)) ReadOnly (n .1 .1 .1 .0);
-          open-to = when-none (shut-out l (mode word) core) NotHolder (n .1 .1 .1 .1 .0);
-          unraced = n .1 .1 .1 .1 .1 .0;
-          unspent = leb-false (b .figures .allowance) (l .counts core) (when-none (leb (b .figures .allowance) (l .counts core)) AllowanceSpent (n .1 .1 .1 .1 .1 .1 .0))
-        }
+      record {
+        in-cores = leb-false (b .figures .cores) core (when-none (leb (b .figures .cores) core) NoCore (n .0));
+        in-size = leb-false (b .size) word (when-none (leb (b .size) word) OutsideBoard (n .1 .0));
+        awake = when-none (waits l core) Waiting (n .1 .1 .0);
+        writable = when-none (is-read-only (mode word)) ReadOnly (n .1 .1 .1 .0);
+        open-to = when-none (shut-out l (mode word) core) NotHolder (n .1 .1 .1 .1 .0);
+        unraced = n .1 .1 .1 .1 .1 .0;
+        unspent = leb-false (b .figures .allowance) (l .counts core) (when-none (leb (b .figures .allowance) (l .counts core)) AllowanceSpent (n .1 .1 .1 .1 .1 .1 .0));
+      }
 
   pub record Lock-passes (core lock : ℕ) : Type 0 where
     pub in-cores : core < b .figures .cores
@@ -77,12 +77,14 @@ module _ (b : Setting) (l : Ledger) where
 
   pub acquire-passes : (core lock : ℕ) → refusal b l (call.Acquire core lock) ≡ None → Lock-passes core lock × (holds-some l core ≡ false)
   acquire-passes core lock e =
-      let n = none-of (rows b l (call.Acquire core lock)) e in
-      ( record { in-cores = leb-false (b .figures .cores) core (when-none (leb (b .figures .cores) core) NoCore (n .0)); awake = when-none (waits l core) Waiting (n .1 .0); in-locks = leb-false 8 lock (when-none (leb 8 lock) NoLock (n .1 .1 .0)) },
-        when-none (holds-some l core) HoldsLock (n .1 .1 .1 .0) )
+      let n = none-of (rows b l (call.Acquire core lock)) e in (
+        record { in-cores = leb-false (b .figures .cores) core (when-none (leb (b .figures .cores) core) NoCore (n .0)); awake = when-none (waits l core) Waiting (n .1 .0); in-locks = leb-false 8 lock (when-none (leb 8 lock) NoLock (n .1 .1 .0)) },
+        when-none (holds-some l core) HoldsLock (n .1 .1 .1 .0),
+      )
 
   pub release-passes : (core lock : ℕ) → refusal b l (call.Release core lock) ≡ None → Lock-passes core lock × (holds l core lock ≡ true)
   release-passes core lock e =
-      let n = none-of (rows b l (call.Release core lock)) e in
-      ( record { in-cores = leb-false (b .figures .cores) core (when-none (leb (b .figures .cores) core) NoCore (n .0)); awake = when-none (waits l core) Waiting (n .1 .0); in-locks = leb-false 8 lock (when-none (leb 8 lock) NoLock (n .1 .1 .0)) },
-        not-false (holds l core lock) (when-none (not (holds l core lock)) NotHeld (n .1 .1 .1 .0)) )
+      let n = none-of (rows b l (call.Release core lock)) e in (
+        record { in-cores = leb-false (b .figures .cores) core (when-none (leb (b .figures .cores) core) NoCore (n .0)); awake = when-none (waits l core) Waiting (n .1 .0); in-locks = leb-false 8 lock (when-none (leb 8 lock) NoLock (n .1 .1 .0)) },
+        not-false (holds l core lock) (when-none (not (holds l core lock)) NotHeld (n .1 .1 .1 .0)),
+      )

@@ -86,27 +86,27 @@ module _ (b : Setting) (fits : Fits b) (old : ℕ → Word) where
 
     refused-moment : (r : Refusal) → e .answer ≡ Refused r → ((c w : ℕ) → g′ c w ≡ g c w) → Moment (h ++ (e ∷ [])) s g′
     refused-moment r a same =
-        record
-          { now = now;
-            good =
-              record
-                { sound = m .good .sound;
-                  phased =
-                    record
-                      { still = m .good .phased .still;
-                        covered = λ w d lock p q. guarded-grows (l .locks lock) g g′ w (same-grows g g′ same) (m .good .phased .covered w d lock p q);
-                        cores = m .good .phased .cores
-                      };
-                  long = m .good .long
-                };
-            told =
-              record
-                { ledger = m .told .ledger ∙ sym (folded-push entered-by _ h e ∙ ap (λ (x : Answer). entered-by (ledger-of h) (record { call = e .call; answer = x })) a);
-                  counts = λ w c. ap (λ (t : Tracked). t .counts c) (unmoved w) ∙ m .told .counts w c;
-                  fresh = λ w p. subst (λ (t : Tracked). Fresh (t .last) (old w) (now w)) (sym (unmoved w)) (m .told .fresh w p);
-                  lawful = λ w t p. m .told .lawful w t (ap (λ (k : Tracked). k .last) (sym (unmoved w)) ∙ p)
-                }
-          }
+        record {
+          now = now;
+          good =
+              record {
+                sound = m .good .sound;
+                phased =
+                    record {
+                      still = m .good .phased .still;
+                      covered = λ w d lock p q. guarded-grows (l .locks lock) g g′ w (same-grows g g′ same) (m .good .phased .covered w d lock p q);
+                      cores = m .good .phased .cores;
+                    };
+                long = m .good .long;
+              };
+          told =
+              record {
+                ledger = m .told .ledger ∙ sym (folded-push entered-by _ h e ∙ ap (λ (x : Answer). entered-by (ledger-of h) (record { call = e .call; answer = x })) a);
+                counts = λ w c. ap (λ (t : Tracked). t .counts c) (unmoved w) ∙ m .told .counts w c;
+                fresh = λ w p. subst (λ (t : Tracked). Fresh (t .last) (old w) (now w)) (sym (unmoved w)) (m .told .fresh w p);
+                lawful = λ w t p. m .told .lawful w t (ap (λ (k : Tracked). k .last) (sym (unmoved w)) ∙ p);
+              };
+        }
       where
         unmoved : (w : ℕ) → tracked w (h ++ (e ∷ [])) ≡ tracked w h
         unmoved w = folded-push _ _ h e ∙ ap (λ (o : Option Written). track-by w o (tracked w h)) (of-refused store-of e r a)
@@ -120,12 +120,12 @@ module _ (b : Setting) (fits : Fits b) (old : ℕ → Word) where
     -- an accepted call that is no store moves no word
     plain-told : store-of (e .call) ≡ None → refused-with (e .answer) ≡ None → Told b old now (entered l (e .call)) (h ++ (e ∷ []))
     plain-told none a =
-        record
-          { ledger = entered-told a;
-            counts = λ w c. ap (λ (t : Tracked). t .counts c) (unmoved w) ∙ (m .told .counts w c ∙ counts-kept (e .call) none c);
-            fresh = λ w p. subst (λ (t : Tracked). Fresh (t .last) (old w) (now w)) (sym (unmoved w)) (m .told .fresh w p);
-            lawful = λ w t p. let old-one = m .told .lawful w t (ap (λ (k : Tracked). k .last) (sym (unmoved w)) ∙ p) in (old-one .0, rw (sym (counts-kept (e .call) none (t .core))) (old-one .1))
-          }
+        record {
+          ledger = entered-told a;
+          counts = λ w c. ap (λ (t : Tracked). t .counts c) (unmoved w) ∙ (m .told .counts w c ∙ counts-kept (e .call) none c);
+          fresh = λ w p. subst (λ (t : Tracked). Fresh (t .last) (old w) (now w)) (sym (unmoved w)) (m .told .fresh w p);
+          lawful = λ w t p. let old-one = m .told .lawful w t (ap (λ (k : Tracked). k .last) (sym (unmoved w)) ∙ p) in (old-one .0, rw (sym (counts-kept (e .call) none (t .core))) (old-one .1));
+        }
       where
         unmoved : (w : ℕ) → tracked w (h ++ (e ∷ [])) ≡ tracked w h
         unmoved w = folded-push _ _ h e ∙ ap (λ (o : Option Written). track-by w o (tracked w h)) (of-unrefused store-of e a ∙ none)
@@ -142,12 +142,12 @@ module _ (b : Setting) (fits : Fits b) (old : ℕ → Word) where
     -- an accepted store is now the last to its word
     store-told : (core word value : ℕ) → e .call ≡ call.Store core word value → refused-with (e .answer) ≡ None → core < 8 → l .counts core < 1000000 → Told b old (upd now word (record { value = value; mark = next-mark l core })) (entered l (call.Store core word value)) (h ++ (e ∷ []))
     store-told core word value is-store a in-cores unspent =
-        record
-          { ledger = subst (λ (c : Call). entered l c ≡ ledger-of (h ++ (e ∷ []))) is-store (entered-told a);
-            counts = λ w c. ap (λ (t : Tracked). t .counts c) (moved w) ∙ counts-moved w c;
-            fresh = λ w p. subst (λ (t : Tracked). Fresh (t .last) (old w) (upd now word new w)) (sym (moved w)) (fresh-moved w p);
-            lawful = λ w t p. lawful-moved w t (ap (λ (k : Tracked). k .last) (sym (moved w)) ∙ p)
-          }
+        record {
+          ledger = subst (λ (c : Call). entered l c ≡ ledger-of (h ++ (e ∷ []))) is-store (entered-told a);
+          counts = λ w c. ap (λ (t : Tracked). t .counts c) (moved w) ∙ counts-moved w c;
+          fresh = λ w p. subst (λ (t : Tracked). Fresh (t .last) (old w) (upd now word new w)) (sym (moved w)) (fresh-moved w p);
+          lawful = λ w t p. lawful-moved w t (ap (λ (k : Tracked). k .last) (sym (moved w)) ∙ p);
+        }
       where
         new : Word
         new = record { value = value; mark = next-mark l core }
@@ -199,11 +199,11 @@ module _ (b : Setting) (fits : Fits b) (old : ℕ → Word) where
 
     accepted-moment : refusal b l (e .call) ≡ None → e .answer ≡ answered b g s (e .call) .answer → Changes (changes (b .figures) l (e .call)) g g′ → Moment (h ++ (e ∷ [])) (after b g s (e .call)) g′
     accepted-moment open-to a ch =
-        record
-          { now = now-after l now (e .call);
-            good = accepted-good b fits now s g g′ (m .good) (e .call) open-to ch;
-            told = go (e .call) refl open-to
-          }
+        record {
+          now = now-after l now (e .call);
+          good = accepted-good b fits now s g g′ (m .good) (e .call) open-to ch;
+          told = go (e .call) refl open-to;
+        }
       where
         unrefused : refused-with (e .answer) ≡ None
         unrefused = ap refused-with a ∙ answered-accepted b g s (e .call)

@@ -9,4 +9,6 @@ pub mod Questions
 pub mod Runs
 pub mod Histories
 pub mod Laws
-pub mod Sample
+pub mod Signed
+pub mod Cases
+pub mod Examples
