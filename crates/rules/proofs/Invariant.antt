@@ -78,10 +78,10 @@ holds-tells None c e = absurd (both-ways false refl e)
 holds-tells (Some d) c e = ap (λ (k : ℕ). Some k) (eqb-true d c e)
 
 -- a locked strip that does not shut the core out is locked by a lock that the core holds
-pub not-shut-out : (l : Ledger) (mode : Mode) (core lock : ℕ) → mode ≡ locked lock → shut-out l mode core ≡ false → l .locks lock .holder ≡ Some core
+pub not-shut-out : (l : Ledger) (mode : Mode) (core lock : ℕ) → mode ≡ locked lock → shut-out (l .locks) mode core ≡ false → l .locks lock .holder ≡ Some core
 not-shut-out l mode core lock e open-to =
     holds-tells (l .locks lock .holder) core
-    (not-false (holds l core lock) (ap (λ (m : Mode). shut-out l m core) (sym e) ∙ open-to))
+    (not-false (holds (l .locks) core lock) (ap (λ (m : Mode). shut-out (l .locks) m core) (sym e) ∙ open-to))
 
 module _ (b : Setting) (fits : Fits b) (now : ℕ → Word) (s : State) (g g′ : Sets) (good : Good b now s g) where
   abbrev f : Five
@@ -101,7 +101,7 @@ module _ (b : Setting) (fits : Fits b) (now : ℕ → Word) (s : State) (g g′ 
 
   -- ── load ──
 
-  module _ (core word : ℕ) (open-to : shut-out l (mode-of f (l .plan) word) core ≡ false) (unraced : load-race (mode-of f (l .plan) word) (l .accesses) core word ≡ None) where
+  module _ (core word : ℕ) (open-to : shut-out (l .locks) (mode-of f (l .plan) word) core ≡ false) (unraced : load-race (mode-of f (l .plan) word) (l .accesses) core word ≡ None) where
     never-stale : again b g s core word ≡ false → Stale f l core word → ⊥
     never-stale once stale = go (mode-of f (l .plan) word) refl
       where
@@ -140,7 +140,7 @@ module _ (b : Setting) (fits : Fits b) (now : ℕ → Word) (s : State) (g g′ 
 
   -- ── store ──
 
-  module _ (core word value : ℕ) (in-cores : core < f .cores) (in-size : word < b .size) (writable : is-read-only (mode-of f (l .plan) word) ≡ false) (open-to : shut-out l (mode-of f (l .plan) word) core ≡ false) where
+  module _ (core word value : ℕ) (in-cores : core < f .cores) (in-size : word < b .size) (writable : is-read-only (mode-of f (l .plan) word) ≡ false) (open-to : shut-out (l .locks) (mode-of f (l .plan) word) core ≡ false) where
     abbrev l′ : Ledger
     l′ = entered l (call.Store core word value)
 

@@ -33,8 +33,8 @@ module _ (b : Setting) (l : Ledger) where
   pub record Load-passes (core word : ℕ) : Type 0 where
     pub in-cores : core < b .figures .cores
     pub in-size : word < b .size
-    pub awake : waits l core ≡ false
-    pub open-to : shut-out l (mode word) core ≡ false
+    pub awake : waits (l .locks) core ≡ false
+    pub open-to : shut-out (l .locks) (mode word) core ≡ false
     pub unraced : load-race (mode word) (l .accesses) core word ≡ None
 
   pub load-passes : (core word : ℕ) → refusal b l (call.Load core word) ≡ None → Load-passes core word
@@ -43,17 +43,17 @@ module _ (b : Setting) (l : Ledger) where
       record {
         in-cores = leb-false (b .figures .cores) core (when-none (leb (b .figures .cores) core) NoCore (n .0));
         in-size = leb-false (b .size) word (when-none (leb (b .size) word) OutsideBoard (n .1 .0));
-        awake = when-none (waits l core) Waiting (n .1 .1 .0);
-        open-to = when-none (shut-out l (mode word) core) NotHolder (n .1 .1 .1 .0);
+        awake = when-none (waits (l .locks) core) Waiting (n .1 .1 .0);
+        open-to = when-none (shut-out (l .locks) (mode word) core) NotHolder (n .1 .1 .1 .0);
         unraced = n .1 .1 .1 .1 .0;
       }
 
   pub record Store-passes (core word : ℕ) : Type 0 where
     pub in-cores : core < b .figures .cores
     pub in-size : word < b .size
-    pub awake : waits l core ≡ false
+    pub awake : waits (l .locks) core ≡ false
     pub writable : is-read-only (mode word) ≡ false
-    pub open-to : shut-out l (mode word) core ≡ false
+    pub open-to : shut-out (l .locks) (mode word) core ≡ false
     pub unraced : store-race (mode word) (l .accesses) core word ≡ None
     pub unspent : l .counts core < b .figures .allowance
 
@@ -63,28 +63,28 @@ module _ (b : Setting) (l : Ledger) where
       record {
         in-cores = leb-false (b .figures .cores) core (when-none (leb (b .figures .cores) core) NoCore (n .0));
         in-size = leb-false (b .size) word (when-none (leb (b .size) word) OutsideBoard (n .1 .0));
-        awake = when-none (waits l core) Waiting (n .1 .1 .0);
+        awake = when-none (waits (l .locks) core) Waiting (n .1 .1 .0);
         writable = when-none (is-read-only (mode word)) ReadOnly (n .1 .1 .1 .0);
-        open-to = when-none (shut-out l (mode word) core) NotHolder (n .1 .1 .1 .1 .0);
+        open-to = when-none (shut-out (l .locks) (mode word) core) NotHolder (n .1 .1 .1 .1 .0);
         unraced = n .1 .1 .1 .1 .1 .0;
         unspent = leb-false (b .figures .allowance) (l .counts core) (when-none (leb (b .figures .allowance) (l .counts core)) AllowanceSpent (n .1 .1 .1 .1 .1 .1 .0));
       }
 
   pub record Lock-passes (core lock : ℕ) : Type 0 where
     pub in-cores : core < b .figures .cores
-    pub awake : waits l core ≡ false
+    pub awake : waits (l .locks) core ≡ false
     pub in-locks : lock < 8
 
-  pub acquire-passes : (core lock : ℕ) → refusal b l (call.Acquire core lock) ≡ None → Lock-passes core lock × (holds-some l core ≡ false)
+  pub acquire-passes : (core lock : ℕ) → refusal b l (call.Acquire core lock) ≡ None → Lock-passes core lock × (holds-some (l .locks) core ≡ false)
   acquire-passes core lock e =
       let n = none-of (rows b l (call.Acquire core lock)) e in (
-        record { in-cores = leb-false (b .figures .cores) core (when-none (leb (b .figures .cores) core) NoCore (n .0)); awake = when-none (waits l core) Waiting (n .1 .0); in-locks = leb-false 8 lock (when-none (leb 8 lock) NoLock (n .1 .1 .0)) },
-        when-none (holds-some l core) HoldsLock (n .1 .1 .1 .0),
+        record { in-cores = leb-false (b .figures .cores) core (when-none (leb (b .figures .cores) core) NoCore (n .0)); awake = when-none (waits (l .locks) core) Waiting (n .1 .0); in-locks = leb-false 8 lock (when-none (leb 8 lock) NoLock (n .1 .1 .0)) },
+        when-none (holds-some (l .locks) core) HoldsLock (n .1 .1 .1 .0),
       )
 
-  pub release-passes : (core lock : ℕ) → refusal b l (call.Release core lock) ≡ None → Lock-passes core lock × (holds l core lock ≡ true)
+  pub release-passes : (core lock : ℕ) → refusal b l (call.Release core lock) ≡ None → Lock-passes core lock × (holds (l .locks) core lock ≡ true)
   release-passes core lock e =
       let n = none-of (rows b l (call.Release core lock)) e in (
-        record { in-cores = leb-false (b .figures .cores) core (when-none (leb (b .figures .cores) core) NoCore (n .0)); awake = when-none (waits l core) Waiting (n .1 .0); in-locks = leb-false 8 lock (when-none (leb 8 lock) NoLock (n .1 .1 .0)) },
-        not-false (holds l core lock) (when-none (not (holds l core lock)) NotHeld (n .1 .1 .1 .0)),
+        record { in-cores = leb-false (b .figures .cores) core (when-none (leb (b .figures .cores) core) NoCore (n .0)); awake = when-none (waits (l .locks) core) Waiting (n .1 .0); in-locks = leb-false 8 lock (when-none (leb 8 lock) NoLock (n .1 .1 .0)) },
+        not-false (holds (l .locks) core lock) (when-none (not (holds (l .locks) core lock)) NotHeld (n .1 .1 .1 .0)),
       )

@@ -18,18 +18,18 @@ use Rattle.rules.specs.State.{Setting, Ledger, Lock, Accessed}
 use Rattle.rules.specs.Tables.{first, when, some-of, is, below}
 
 -- whether the core waits in some lock's queue
-abbrev pub waits : Ledger → ℕ → Bool
-waits ledger core = some-of (λ lock. some-of (λ waiter. eqb waiter core) (ledger .locks lock .queue)) (below 8)
+abbrev pub waits : (ℕ → Lock) → ℕ → Bool
+waits locks core = some-of (λ lock. some-of (λ waiter. eqb waiter core) (locks lock .queue)) (below 8)
 
 -- whether the core holds this lock, some lock; whether some lock is held
-abbrev pub holds : Ledger → ℕ → ℕ → Bool
-holds ledger core lock = is (ledger .locks lock .holder) core
+abbrev pub holds : (ℕ → Lock) → ℕ → ℕ → Bool
+holds locks core lock = is (locks lock .holder) core
 
-abbrev pub holds-some : Ledger → ℕ → Bool
-holds-some ledger core = some-of (λ lock. holds ledger core lock) (below 8)
+abbrev pub holds-some : (ℕ → Lock) → ℕ → Bool
+holds-some locks core = some-of (λ lock. holds locks core lock) (below 8)
 
-abbrev pub some-held : Ledger → Bool
-some-held ledger = some-of (λ lock. isSome (ledger .locks lock .holder)) (below 8)
+abbrev pub some-held : (ℕ → Lock) → Bool
+some-held locks = some-of (λ lock. isSome (locks lock .holder)) (below 8)
 
 -- the accesses have the same kind
 abbrev pub same-access : Access → Access → Bool
@@ -64,10 +64,10 @@ store-race written accesses core word =
 store-race (locked lock) accesses core word = None
 
 -- the strip is locked and the core does not hold its lock
-abbrev pub shut-out : Ledger → Mode → ℕ → Bool
-shut-out ledger read-only core = false
-shut-out ledger written core = false
-shut-out ledger (locked lock) core = not (holds ledger core lock)
+abbrev pub shut-out : (ℕ → Lock) → Mode → ℕ → Bool
+shut-out locks read-only core = false
+shut-out locks written core = false
+shut-out locks (locked lock) core = not (holds locks core lock)
 
 module _ (b : Setting) (ledger : Ledger) where
   abbrev pub no-core : ℕ → Option Refusal
@@ -84,33 +84,33 @@ module _ (b : Setting) (ledger : Ledger) where
   rows (call.Load core word) =
       no-core core
       ∷ outside word
-      ∷ when (waits ledger core) Waiting
-      ∷ when (shut-out ledger (mode word) core) NotHolder
+      ∷ when (waits (ledger .locks) core) Waiting
+      ∷ when (shut-out (ledger .locks) (mode word) core) NotHolder
       ∷ load-race (mode word) (ledger .accesses) core word
       ∷ []
   rows (call.Store core word value) =
       no-core core
       ∷ outside word
-      ∷ when (waits ledger core) Waiting
+      ∷ when (waits (ledger .locks) core) Waiting
       ∷ when (is-read-only (mode word)) ReadOnly
-      ∷ when (shut-out ledger (mode word) core) NotHolder
+      ∷ when (shut-out (ledger .locks) (mode word) core) NotHolder
       ∷ store-race (mode word) (ledger .accesses) core word
       ∷ when (leb (b .figures .allowance) (ledger .counts core)) AllowanceSpent
       ∷ []
   rows (call.Evict core word) = no-core core ∷ outside word ∷ []
   rows (call.Acquire core lock) =
       no-core core
-      ∷ when (waits ledger core) Waiting
+      ∷ when (waits (ledger .locks) core) Waiting
       ∷ when (leb 8 lock) NoLock
-      ∷ when (holds-some ledger core) HoldsLock
+      ∷ when (holds-some (ledger .locks) core) HoldsLock
       ∷ []
   rows (call.Release core lock) =
       no-core core
-      ∷ when (waits ledger core) Waiting
+      ∷ when (waits (ledger .locks) core) Waiting
       ∷ when (leb 8 lock) NoLock
-      ∷ when (not (holds ledger core lock)) NotHeld
+      ∷ when (not (holds (ledger .locks) core lock)) NotHeld
       ∷ []
-  rows (call.Phase plan) = when (has-bad-mode plan) BadMode ∷ when (some-held ledger) LockHeld ∷ []
+  rows (call.Phase plan) = when (has-bad-mode plan) BadMode ∷ when (some-held (ledger .locks)) LockHeld ∷ []
   rows call.Settle = []
 
   -- the refusal of a call, if a row is met
