@@ -15,6 +15,7 @@ use Rattle.rules.specs.Steps.{Change, put, take-in, clear, Operations, changed
 use Rattle.rules.proofs.Decides.{order-decides}
 use Rattle.rules.proofs.Equal.{equal-loads}
 use Rattle.rules.proofs.Fresh.{no-stale, refusals-told}
+use Rattle.rules.proofs.Races.{races-named}
 use Rattle.rules.proofs.Settled.{settled-pages}
 
 pub run-laws : (r : Ran) → Run-laws r
@@ -25,6 +26,7 @@ run-laws r =
       settled-pages = λ q. settled-pages r q;
       order-decides = λ q. order-decides r q;
       refusals-told = refusals-told r;
+      races-named = races-named r;
     }
 
 module _ {S : Type 0} (ops : Operations S) (ok : Lawful ops) where

@@ -19,5 +19,6 @@ pub mod Holders
 pub mod Own
 pub mod Order
 pub mod Decides
+pub mod Races
 pub mod Instance
 pub mod Examples

@@ -16,12 +16,15 @@ use Rattle.call.specs.declared.answer.Answer.{Answer}
 use Rattle.call.specs.declared.answer.Answer.the-variants.{Loaded, Stored, Done, Refused}
 use Rattle.call.specs.declared.call.Call.{Call}
 use Rattle.call.specs.declared.call.Call.the-variants as call
+use Rattle.call.specs.declared.refusal.Access.{Access}
+use Rattle.call.specs.declared.refusal.Access.the-variants.{Load, Store}
 use Rattle.call.specs.declared.refusal.Refusal.{Refusal}
 use Rattle.word.specs.Lawful.{mark-of}
 use Rattle.word.specs.Marks.{number}
 use Rattle.word.specs.declared.word.Word.{Word}
 use Rattle.rules.specs.Runs.{Event, History}
-use Rattle.rules.specs.State.{Ledger, blank-ledger, unmarked}
+use Rattle.rules.specs.Refusals.{by-another}
+use Rattle.rules.specs.State.{Accessed, Ledger, blank-ledger, unmarked}
 use Rattle.rules.specs.Steps.{entered}
 use Rattle.rules.specs.Tables.{upd, some-of}
 
@@ -176,6 +179,38 @@ entered-by l e = cond (accepted e) (entered l (e .call)) l
 -- locks, counts, plan and this phase's accesses, from the accepted calls alone
 abbrev pub ledger-of : History → Ledger
 ledger-of h = folded entered-by blank-ledger h
+
+-- ── the accesses of a phase ──
+
+-- a load or store: its core, its word and which of the two
+abbrev pub touches : Call → Option Accessed
+touches (call.Load core word) = Some (record { core = core; word = word; access = Load })
+touches (call.Store core word value) = Some (record { core = core; word = word; access = Store })
+touches (call.Evict core word) = None
+touches (call.Acquire core lock) = None
+touches (call.Release core lock) = None
+touches (call.Phase plan) = None
+touches call.Settle = None
+
+-- an accepted load or store
+abbrev pub accessed : Event → Option Accessed
+accessed e = of-accepted touches e
+
+abbrev pub phase-by : Option ℕ → History → Event → History
+phase-by None h e = h ++ (e ∷ [])
+phase-by (Some plan) h e = []
+
+-- this phase: the events since the last accepted phase call, or since the opening
+abbrev pub this-phase : History → History
+this-phase h = folded (λ phase e. phase-by (begins e) phase e) [] h
+
+abbrev pub passes : (Accessed → Bool) → Option Accessed → Bool
+passes test None = false
+passes test (Some a) = test a
+
+-- whether an event is an accepted access of this kind to the word by another core
+abbrev pub other-access : Access → ℕ → ℕ → Event → Bool
+other-access access core word e = passes (by-another access core word) (accessed e)
 
 -- ── locks in order ──
 

@@ -8,13 +8,18 @@ use lib.ListN.{length, getD}
 use Rattle.std.specs.declared.option.Option.{Option}
 use Rattle.std.specs.declared.option.Option.the-variants.{Some, None}
 use Rattle.call.specs.Figures.{Five}
+use Rattle.call.specs.declared.answer.Answer.the-variants.{Refused}
+use Rattle.call.specs.declared.call.Call.{Call}
 use Rattle.call.specs.declared.call.Call.the-variants.{Settle}
+use Rattle.call.specs.declared.refusal.Access.{Access}
+use Rattle.call.specs.declared.refusal.Access.the-variants.{Load, Store}
 use Rattle.call.specs.declared.refusal.Refusal.{Refusal}
+use Rattle.call.specs.declared.refusal.Refusal.the-variants.{Race}
 use Rattle.word.specs.declared.word.Word.{Word}
-use Rattle.rules.specs.Histories.{accepted, refused-with, loaded, Load-given, stores-to, last-store, Fresh, ledger-of, order-of-holders, calls-of}
+use Rattle.rules.specs.Histories.{accepted, refused-with, loaded, Load-given, stores-to, last-store, Fresh, ledger-of, touches, accessed, this-phase, other-access, order-of-holders, calls-of}
 use Rattle.rules.specs.Refusals.{refusal}
 use Rattle.rules.specs.Runs.{Event, History, Ran}
-use Rattle.rules.specs.State.{State, size-of, setting, page-word, blank}
+use Rattle.rules.specs.State.{Accessed, State, size-of, setting, page-word, blank}
 use Rattle.rules.specs.Tables.{some-of}
 
 -- the opening word at a place, before its mark was taken off
@@ -107,6 +112,29 @@ Refusals-told r =
     → r .history ≡ before ++ (e ∷ after)
     → refused-with (e .answer) ≡ refusal (setting (r .figures) (r .page)) (ledger-of before) (e .call)
 
+-- a race as its refusal tells it: another core's accepted access of the word in this phase. A store is named where there is
+-- one, the earliest; else, and of a store only, the earliest load.
+pub record Race-named (phase : History) (c : Call) (named : ℕ) (kind : Access) : Type 0 where
+  pub caller : Accessed
+  pub calls : touches c ≡ Some caller
+  pub other : named ≡ caller .core → ⊥
+  pub earlier : History
+  pub event : Event
+  pub later : History
+  pub stands : phase ≡ earlier ++ (event ∷ later)
+  pub names : accessed event ≡ Some (record { core = named; word = caller .word; access = kind })
+  pub earliest : some-of (other-access kind (caller .core) (caller .word)) earlier ≡ false
+  pub loads-last : kind ≡ Load → (caller .access ≡ Store) × (some-of (other-access Store (caller .core) (caller .word)) phase ≡ false)
+
+-- Refusal 6 names another core's accepted store of the word in this phase if there is one, else the earliest accepted load of
+-- it in this phase by any core other than the caller; a load races with stores only.
+abbrev pub Races-named : Ran → Type 0
+Races-named r =
+    (before : History) (e : Event) (after : History) (named : ℕ) (kind : Access)
+    → r .history ≡ before ++ (e ∷ after)
+    → e .answer ≡ Refused (Race named kind)
+    → Race-named (this-phase before) (e .call) named kind
+
 -- All laws of a run, those about two runs with every other run.
 pub record Run-laws (r : Ran) : Type 0 where
   pub no-stale : No-stale r
@@ -114,6 +142,7 @@ pub record Run-laws (r : Ran) : Type 0 where
   pub settled-pages : (q : Ran) → Settled-pages r q
   pub order-decides : (q : Ran) → Order-decides r q
   pub refusals-told : Refusals-told r
+  pub races-named : Races-named r
 
 -- This history, with the state that it leaves, is that of a run on a board just opened with these figures on this page; of it,
 -- and of it with every other run, all laws hold.

@@ -2,7 +2,7 @@
 //! here says by its contract that a statement of specs/ is proved, so that without its proof the crate fails.
 ghost use Rattle.rules.specs.Cases.{All-say, cases};
 ghost use Rattle.rules.specs.Examples.{Sample-plays, Two-orders, Old-copy-fetched};
-ghost use Rattle.rules.specs.Laws.{No-stale, Equal-loads, Settled-pages, Order-decides, Refusals-told};
+ghost use Rattle.rules.specs.Laws.{No-stale, Equal-loads, Settled-pages, Order-decides, Refusals-told, Races-named};
 ghost use Rattle.rules.specs.Runs.{Ran};
 
 /// No accepted load gives a stale word, in any run.
@@ -28,6 +28,11 @@ pub fn order_decides()
 /// Figures, size and history decide whether and why a call is refused, in any run.
 pub fn refusals_told()
     ensures { λ _. ⌜ ((r : Ran) → Refusals-told r) ⌝ }
+{}
+
+/// A race names another core's store of the word in this phase, or else the earliest load of it, in any run.
+pub fn races_named()
+    ensures { λ _. ⌜ ((r : Ran) → Races-named r) ⌝ }
 {}
 
 /// The ten cases.
