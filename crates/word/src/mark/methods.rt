@@ -53,8 +53,7 @@ impl Mark {
 
     /// The mark's number.
     pub fn number(self) -> u32
-        ensures value { λ r. ⌜ r ≡ number self ⌝ }
-        ensures lawful { λ r. ⌜ Lawful r ⌝ }
+        ensures { λ r. ⌜ r ≡ number self ⌝ }
     {
         let number = self.number;
         number
