@@ -43,7 +43,9 @@ impl Mark {
         ensures apart { λ _. ⌜ ((d k : ℕ) → Stores core count → Stores d k → mark-of core count ≡ mark-of d k → (core ≡ d) × (count ≡ k)) ⌝ }
     {
         if core < 8 && 1 <= count && count <= 1_000_000 {
-            Some(Mark { number: core as u32 * 1_048_576 + count })
+            Some(Mark {
+                number: core as u32 * 1_048_576 + count,
+            })
         } else {
             None
         }

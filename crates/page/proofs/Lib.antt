@@ -1,0 +1,2 @@
+-- Lemmas on page stores.
+pub mod Marks

@@ -1,0 +1,3 @@
+-- The definitions that the contracts of page stores cite.
+pub mod Pages
+pub mod Sizes

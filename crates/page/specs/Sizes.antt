@@ -1,0 +1,11 @@
+-- Why no page has more than 4,096 words: the facts that the stores give as members stand here, since a store's member
+-- may cite only what stands beside its definitions. Assumes nothing.
+use mathlib.Core.List.{List}
+use mathlib.Core.Path.{_≡_}
+use Prim.Native.Nat.{ℕ, _≤_}
+use native.Mathlib.Omega.{arith}
+use lib.ListN.{length}
+
+-- a list of a known length has at most that many elements
+pub at-most : {X : Type 0} (xs : List X) (n : ℕ) → length xs ≡ n → length xs ≤ n
+at-most xs n e = omega arith

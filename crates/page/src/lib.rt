@@ -1,0 +1,9 @@
+//! Page stores: what a page means, two stores that hold words, and a bank over any store.
+
+pub mod outside;
+pub mod store;
+pub mod table;
+
+pub use outside::Outside;
+pub use store::PageStore;
+pub use table::Table;
