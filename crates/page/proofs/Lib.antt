@@ -1,2 +1,3 @@
 -- Lemmas on page stores.
 pub mod Marks
+pub mod Groups

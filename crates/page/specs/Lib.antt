@@ -1,3 +1,4 @@
 -- The definitions that the contracts of page stores cite.
 pub mod Pages
 pub mod Sizes
+pub mod Groups
