@@ -1,3 +1,4 @@
 -- Lemmas on page stores.
+pub mod ByteWords
 pub mod Marks
 pub mod Groups

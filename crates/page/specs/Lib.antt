@@ -2,3 +2,4 @@
 pub mod Pages
 pub mod Sizes
 pub mod Groups
+pub mod ByteWords

@@ -5,7 +5,13 @@ use mathlib.Core.Path.{_≡_}
 use Prim.Native.Nat.{ℕ, _≤_}
 use native.Mathlib.Omega.{arith}
 use lib.ListN.{length}
+use Rattle.std.proofs.shelf.Counted.{length-map-counting}
+use Rattle.page.specs.ByteWords.{byte-size, byte-words}
 
 -- a list of a known length has at most that many elements
 pub at-most : {X : Type 0} (xs : List X) (n : ℕ) → length xs ≡ n → length xs ≤ n
 at-most xs n e = omega arith
+
+-- bytes spell at most 4,096 words
+pub bytes-at-most : (bytes : List ℕ) → length (byte-words bytes) ≤ 4096
+bytes-at-most bytes = simp length-map-counting (omega arith)

@@ -1,10 +1,12 @@
 //! Page stores: what a page means, two stores that hold words, and a bank over any store.
 
+pub mod bytes;
 pub mod group;
 pub mod outside;
 pub mod store;
 pub mod table;
 
+pub use bytes::Bytes;
 pub use group::bytes_of;
 pub use group::word_of;
 pub use outside::Outside;
