@@ -3,3 +3,4 @@ pub mod Pages
 pub mod Sizes
 pub mod Groups
 pub mod ByteWords
+pub mod Slots
