@@ -8,7 +8,7 @@ pub returns-then-place-size : need.returns-then-place-size
 returns-then-place-size g c =
     let slots = c .args .self .now .slots in
     let below = g .P·PageStore .words (c .args .self .now .below) in
-    record { answer = read-outside slots below (c .args .place) (omega arith); same = refl; slots = refl; below = refl }
+    record { answer = read-outside slots below (c .args .place) (omega arith); same = refl {a = laid slots below}; slots = refl {a = slots}; below = refl {a = below} }
 
 pub returns-in-Some : need.returns-in-Some
 returns-in-Some g c =
@@ -17,7 +17,7 @@ returns-in-Some g c =
     record {
       answer = read-held slots below (c .args .place) (omega arith) (c .in-Some .word) (c .in-Some .ensures tt);
       same = refl;
-      slots = refl;
+      slots = refl {a = slots};
       below = refl;
     }
 
@@ -29,6 +29,6 @@ returns-in-None g c =
       answer =
           c .read .ensures .answer ∙ read-through slots below (c .args .place) (omega arith) (c .in-None .ensures tt);
       same = ap (laid slots) (c .read .ensures .same);
-      slots = refl;
+      slots = refl {a = slots};
       below = c .read .ensures .same;
     }
