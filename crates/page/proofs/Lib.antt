@@ -4,4 +4,5 @@ pub mod BankDrain
 pub mod ByteWords
 pub mod Marks
 pub mod Groups
+pub mod Accesses
 pub mod Slots

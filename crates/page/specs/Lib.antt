@@ -4,3 +4,4 @@ pub mod Sizes
 pub mod Groups
 pub mod ByteWords
 pub mod Slots
+pub mod Plays

@@ -8,7 +8,12 @@ pub returns-then-place-size : need.returns-then-place-size
 returns-then-place-size g c =
     let slots = c .args .self .now .slots in
     let below = g .P·PageStore .words (c .args .self .now .below) in
-    record { answer = read-outside slots below (c .args .place) (omega arith); same = refl {a = laid slots below}; slots = refl {a = slots}; below = refl {a = below} }
+    record {
+      answer = read-outside slots below (c .args .place) (omega arith);
+      same = refl {a = laid slots below};
+      slots = refl {a = slots};
+      below = refl {a = below};
+    }
 
 pub returns-in-Some : need.returns-in-Some
 returns-in-Some g c =
@@ -16,9 +21,9 @@ returns-in-Some g c =
     let below = g .P·PageStore .words (c .args .self .now .below) in
     record {
       answer = read-held slots below (c .args .place) (omega arith) (c .in-Some .word) (c .in-Some .ensures tt);
-      same = refl;
+      same = refl {a = laid slots below};
       slots = refl {a = slots};
-      below = refl;
+      below = refl {a = below};
     }
 
 pub returns-in-None : need.returns-in-None
