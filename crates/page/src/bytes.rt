@@ -21,9 +21,17 @@ pub struct Bytes<'a> {
 impl<'a> Bytes<'a> {
     /// The page that the lent bytes spell; making it changes none of them.
     pub fn new(bytes: &'a mut [u8]) -> Bytes<'a>
-        ensures { λ r. ⌜ now (r .bytes) ≡ now (bytes .entry) ⌝ }
+        ensures same { λ r. ⌜ now (r .bytes) ≡ now (bytes .entry) ⌝ }
+        ensures lent { λ r. ⌜ name (r .bytes) ≡ name (bytes .entry) ⌝ }
     {
         Bytes { bytes }
+    }
+
+    /// The bytes as they are now, to look at.
+    pub fn as_bytes(&self) -> &[u8]
+        ensures { λ r. ⌜ now r ≡ now (now (self .entry) .bytes) ⌝ }
+    {
+        self.bytes
     }
 
     // The word at `place`, if it is below the size.
@@ -55,6 +63,7 @@ pub impl PageStore for Bytes<'_> as BytesPageStore {
         ensures answer { λ r. ⌜ r ≡ read-answer (byte-words (now (now (self .entry) .bytes))) place ⌝ }
         ensures same { λ _. ⌜ byte-words (now (now (self .exit) .bytes)) ≡ byte-words (now (now (self .entry) .bytes)) ⌝ }
         ensures bytes { λ _. ⌜ now (now (self .exit) .bytes) ≡ now (now (self .entry) .bytes) ⌝ }
+        ensures lent { λ _. ⌜ name (now (self .exit) .bytes) ≡ name (now (self .entry) .bytes) ⌝ }
     {
         self.word_at(place)
     }
@@ -63,6 +72,7 @@ pub impl PageStore for Bytes<'_> as BytesPageStore {
         ensures answer { λ r. ⌜ r ≡ write-answer (byte-words (now (now (self .entry) .bytes))) place ⌝ }
         ensures after { λ _. ⌜ byte-words (now (now (self .exit) .bytes)) ≡ set (byte-words (now (now (self .entry) .bytes))) place word ⌝ }
         ensures bytes { λ _. ⌜ now (now (self .exit) .bytes) ≡ bytes-after (now (now (self .entry) .bytes)) place word ⌝ }
+        ensures lent { λ _. ⌜ name (now (self .exit) .bytes) ≡ name (now (self .entry) .bytes) ⌝ }
     {
         if place >= self.size() {
             return Err(Outside);

@@ -23,6 +23,13 @@ impl Table {
             cells: [blank; 4096],
         }
     }
+
+    /// The words as they are now, to look at.
+    pub fn cells(&self) -> &[Word]
+        ensures { λ r. ⌜ now r ≡ now (self .entry) .cells ⌝ }
+    {
+        &self.cells
+    }
 }
 
 pub impl PageStore for Table as TablePageStore {

@@ -14,6 +14,7 @@ returns-then-place-size c =
       answer = search needs;
       after = ap byte-words kept ∙ words-after bytes (c .args .place) (c .args .word) (search needs);
       bytes = kept;
+      lent = search needs;
     }
 
 pub part-copy-from-slice-end : need.part-copy-from-slice-end
@@ -31,4 +32,5 @@ returns c =
       answer = search needs;
       after = ap byte-words written ∙ words-after bytes (c .args .place) (c .args .word) (search needs);
       bytes = written;
+      lent = search needs;
     }
