@@ -12,7 +12,7 @@ use Rattle.std.proofs.shelf.Lists.{ext-getD, getD-set-same, getD-set-other, get
 use Rattle.std.specs.declared.option.Option.the-variants.{None}
 use Rattle.word.specs.declared.word.Word.{Word}
 use Rattle.page.specs.Slots.{Slot, in-slot, laid, flushed}
-use Rattle.page.proofs.Slots.{emptied, laid-empty}
+use Rattle.page.proofs.Slots.{emptied}
 
 module _ (slots slots′ : List Slot) (i : ℕ) (full : length slots ≡ 128) (few : i < 128) (step : slots′ ≡ set slots i None) where
   -- one step keeps what the bank means
@@ -36,7 +36,3 @@ all-empty slots full empty =
     (λ k h.
     let lt : k < 128 = omega arith in
     empty k lt ∙ sym (getD-replicate 128 k None None lt))
-
--- which means the list below
-pub drained : (slots : List Slot) (below : List Word) → slots ≡ replicate 128 None → below ≡ laid slots below
-drained slots below e = sym (ap (λ (ss : List Slot). laid ss below) e ∙ laid-empty below)

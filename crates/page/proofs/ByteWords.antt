@@ -32,10 +32,10 @@ pub word-at : (bytes : List ℕ) (k : ℕ) (d : Word) → k < byte-size bytes �
 word-at bytes k d h = getD-map-counting (λ p. group-word (group-at bytes p)) 0 (byte-size bytes) k k d h (omega arith)
 
 -- a read inside gives the word of the 8 bytes there
-pub read-inside : (bytes : List ℕ) (k n : ℕ) (x : Word) (group : List ℕ) → k < length (byte-words bytes) → n ≡ 8 → x ≡ group-word group → group ≡ take n (drop (k * 8) bytes) → _≡_ {A = Result Word Outside} (Ok x) (read-answer (byte-words bytes) k)
-read-inside bytes k n x group h eight spells e =
+pub read-inside : (bytes : List ℕ) (k at n : ℕ) (x : Word) (group : List ℕ) → k < length (byte-words bytes) → at ≡ k * 8 → n ≡ 8 → x ≡ group-word group → group ≡ take n (drop at bytes) → _≡_ {A = Result Word Outside} (Ok x) (read-answer (byte-words bytes) k)
+read-inside bytes k at n x group h start eight spells e =
     let lt : k < byte-size bytes = omega (arith, length-words bytes) in
-    let there = e ∙ ap (λ (m : ℕ). take m (drop (k * 8) bytes)) eight in
+    let there = e ∙ ap (λ (m : ℕ). take m (drop at bytes)) eight ∙ ap (λ (m : ℕ). take 8 (drop m bytes)) start in
     let found : Result Word Outside = Ok (getD (byte-words bytes) k blank-word) in
     ap Ok (spells ∙ ap group-word there ∙ sym (word-at bytes k blank-word lt))
     ∙ cond-below k (length (byte-words bytes)) found (Err outside) h
@@ -129,9 +129,9 @@ words-after bytes k x fits = ⊎-elim inside past (cases-lt k (byte-size bytes))
         ∙ sym (set-past (byte-words bytes) k x long)
 
 -- a write inside leaves the bytes with the word's group in the middle
-pub bytes-inside : (bytes : List ℕ) (k n : ℕ) (x : Word) (group : List ℕ) → k < length (byte-words bytes) → n ≡ 8 → group ≡ group-bytes x → putMid (k * 8) n bytes group ≡ bytes-after bytes k x
-bytes-inside bytes k n x group h eight e =
-    put-is bytes k n group eight ∙ ap (put bytes k) e
+pub bytes-inside : (bytes : List ℕ) (k at n : ℕ) (x : Word) (group : List ℕ) → k < length (byte-words bytes) → at ≡ k * 8 → n ≡ 8 → group ≡ group-bytes x → putMid at n bytes group ≡ bytes-after bytes k x
+bytes-inside bytes k at n x group h start eight e =
+    ap (λ (m : ℕ). putMid m n bytes group) start ∙ put-is bytes k n group eight ∙ ap (put bytes k) e
     ∙ cond-below k (byte-size bytes) (put bytes k (group-bytes x)) bytes (omega (arith, length-words bytes))
 
 -- a write past the last group leaves all bytes

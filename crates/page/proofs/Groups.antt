@@ -43,7 +43,8 @@ group-back x bytes e h = ap group-word e ∙ back
         λ i. record { value = value i; mark = mark i }
 
 -- a value and a mark are a group's word where they are read from its two halves
-pub word-from-halves : (bytes : List ℕ) (v n : ℕ) (m : Mark) → v ≡ four-number bytes 0 → n ≡ four-number bytes 4 → m ≡ mark-read n → _≡_ {A = Word} (record { value = v; mark = m }) (group-word bytes)
-word-from-halves bytes v n m value number mark =
-    let read = mark ∙ ap mark-read number in
+pub word-from-halves : (bytes : List ℕ) (halves : ℕ × ℕ) (m : Mark) → halves ≡ (four-number bytes 0, four-number bytes 4) → m ≡ mark-read (halves .1) → _≡_ {A = Word} (record { value = halves .0; mark = m }) (group-word bytes)
+word-from-halves bytes halves m e mark =
+    let value = ap (λ (h : ℕ × ℕ). h .0) e in
+    let read = mark ∙ ap (λ (h : ℕ × ℕ). mark-read (h .1)) e in
     λ i. record { value = value i; mark = read i }

@@ -15,8 +15,8 @@ use Rattle.page.specs.Groups.{mark-if, mark-read}
 use Rattle.page.specs.Pages.{blank-mark, blank-word}
 
 -- a word of value 0 whose mark's number is 0 is the blank word
-pub blank-from-zero : (m : Mark) → number m ≡ 0 → _≡_ {A = Word} (record { value = 0; mark = m }) blank-word
-blank-from-zero m e = λ i. record { value = 0; mark = same-mark m blank-mark e i }
+pub blank-from-zero : (x : Word) → x .value ≡ 0 → number (x .mark) ≡ 0 → x ≡ blank-word
+blank-from-zero x value mark = λ i. record { value = value i; mark = same-mark (x .mark) blank-mark mark i }
 
 -- a number reads as the mark of that number, or of 0
 pub number-mark-read : (n : ℕ) → number (mark-read n) ≡ cond (lawful n) n 0

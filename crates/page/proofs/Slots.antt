@@ -42,13 +42,28 @@ same-laid slots slots′ below below′ long each =
     laid-at slots below k blank-word lt ∙ each k lt ∙ sym (laid-at slots′ below′ k blank-word lt′))
 
 -- a bank with empty slots means the list below
-pub laid-empty : (below : List Word) → laid (replicate 128 None) below ≡ below
-laid-empty below =
-    ext-getD blank-word _ _ (length-laid (replicate 128 None) below)
+pub laid-empty : (slots : List Slot) (below : List Word) → slots ≡ replicate 128 None → laid slots below ≡ below
+laid-empty slots below e =
+    ap (λ (ss : List Slot). laid ss below) e
+    ∙ ext-getD blank-word _ _ (length-laid (replicate 128 None) below)
     (λ k h.
     let lt : k < length below = omega (arith, length-laid (replicate 128 None) below) in
     laid-at (replicate 128 None) below k blank-word lt
     ∙ ap (λ (s : Slot). shown s k (getD below k blank-word)) (getD-replicate 128 (k % 128) None None (mod-lt k (omega arith))))
+
+-- empty slots are 128
+pub empty-full : (slots : List Slot) → slots ≡ replicate 128 None → length slots ≡ 128
+empty-full slots e = ap length e
+
+-- and in them everything lies where it must
+pub empty-lies : (slots : List Slot) → slots ≡ replicate 128 None → (i : ℕ) → in-slot i (getD slots i None) ≡ true
+empty-lies slots e i = ap (λ (ss : List Slot). in-slot i (getD ss i None)) e ∙ ⊎-elim inside past (cases-lt i 128)
+  where
+    inside : i < 128 → in-slot i (getD (replicate 128 None) i None) ≡ true
+    inside h = ap (in-slot i) (getD-replicate 128 i None None h)
+
+    past : 128 ≤ i → in-slot i (getD (replicate 128 None) i None) ≡ true
+    past h = ap (in-slot i) (getD-past (replicate 128 None) i None (omega (arith, length-replicate {A = Slot} 128 None)))
 
 -- a slot shows its word at the word's place
 pub shown-here : (change : Change) (j : ℕ) (w : Word) → change .place ≡ j → shown (Some change) j w ≡ change .word
@@ -202,10 +217,3 @@ module _ (slots : List Slot) (below : List Word) (full : length slots ≡ 128) (
 
       long : length (made-way (slot-for slots k) k below) ≡ length below
       long = length-made-way (slot-for slots k) k below
-
--- in empty slots everything lies where it must
-pub empty-lies : (i : ℕ) → in-slot i (getD (replicate 128 None) i None) ≡ true
-empty-lies i =
-    ⊎-elim (λ h. ap (in-slot i) (getD-replicate 128 i None None h))
-    (λ h. ap (in-slot i) (getD-past (replicate 128 None) i None (omega (arith, length-replicate {A = Slot} 128 None))))
-    (cases-lt i 128)

@@ -1,5 +1,5 @@
 //! The byte store: words in bytes that the caller lends, in groups of 8.
-ghost use Prim.Native.Nat.{_≤_};
+ghost use Prim.Native.Nat.{_*_, _≤_};
 ghost use denote.Ref.{name};
 ghost use lib.ListN.{length, set};
 ghost use mathlib.Core.Path.{_≡_};
@@ -18,6 +18,13 @@ pub struct Bytes<'a> {
     bytes: &'a mut [u8],
 }
 
+// Where the group of a place starts among the bytes.
+fn start_of(place: u16) -> usize
+    ensures { λ r. ⌜ r ≡ place * 8 ⌝ }
+{
+    place as usize * 8
+}
+
 impl<'a> Bytes<'a> {
     /// The page that the lent bytes spell; making it changes none of them.
     pub fn new(bytes: &'a mut [u8]) -> Bytes<'a>
@@ -31,7 +38,14 @@ impl<'a> Bytes<'a> {
     pub fn as_bytes(&self) -> &[u8]
         ensures { λ r. ⌜ now r ≡ now (now (self .entry) .bytes) ⌝ }
     {
-        self.bytes
+        &*self.bytes
+    }
+
+    // The number of whole groups, 4,096 at most.
+    fn groups(&self) -> u16
+        ensures { λ r. ⌜ r ≡ byte-size (now (now (self .entry) .bytes)) ⌝ }
+    {
+        (self.bytes.len() / 8).min(4096) as u16
     }
 
     // The word at `place`, if it is below the size.
@@ -41,7 +55,7 @@ impl<'a> Bytes<'a> {
         if place >= self.size() {
             return Err(Outside);
         }
-        let at = place as usize * 8;
+        let at = start_of(place);
         let mut group = [0; 8];
         group.copy_from_slice(&self.bytes[at..at + 8]);
         Ok(word_of(group))
@@ -56,7 +70,7 @@ pub impl PageStore for Bytes<'_> as BytesPageStore {
     fn size(&self) -> u16
         ensures { λ r. ⌜ r ≡ length (byte-words (now (now (self .entry) .bytes))) ⌝ }
     {
-        (self.bytes.len() / 8).min(4096) as u16
+        self.groups()
     }
 
     fn read(&mut self, place: u16) -> Result<Word, Outside>
@@ -77,7 +91,7 @@ pub impl PageStore for Bytes<'_> as BytesPageStore {
         if place >= self.size() {
             return Err(Outside);
         }
-        let at = place as usize * 8;
+        let at = start_of(place);
         let group = bytes_of(word);
         self.bytes[at..at + 8].copy_from_slice(&group);
         Ok(())

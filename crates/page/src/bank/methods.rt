@@ -5,7 +5,15 @@ ghost use mathlib.Core.Path.{_≡_};
 ghost use Rattle.std.specs.declared.option.Option.the-variants.{None};
 ghost use Rattle.page.specs.Slots.{flushed, laid};
 use super::Bank;
+use crate::change::Change;
 use crate::store::PageStore;
+
+// 128 empty slots.
+fn empty_slots() -> [Option<Change>; 128]
+    ensures { λ r. ⌜ r ≡ replicate 128 None ⌝ }
+{
+    [None; 128]
+}
 
 impl<P: PageStore> Bank<P> {
     /// A bank over a page, with every slot empty: it means what the page below means.
@@ -15,7 +23,7 @@ impl<P: PageStore> Bank<P> {
         ensures same { λ r. ⌜ laid (r .slots) (words (r .below)) ≡ words below ⌝ }
     {
         Bank {
-            slots: [None; 128],
+            slots: empty_slots(),
             below,
         }
     }

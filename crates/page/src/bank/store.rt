@@ -17,7 +17,7 @@ pub impl<P: PageStore> PageStore for Bank<P> as BankPageStore {
     ghost bounded = { λ b. laid-at-most (b .slots) (P·PageStore .words (b .below)) (P·PageStore .bounded (b .below)) };
 
     fn size(&self) -> u16 {
-        self.below.size()
+        self.size_below()
     }
 
     fn read(&mut self, place: u16) -> Result<Word, Outside>
@@ -26,12 +26,12 @@ pub impl<P: PageStore> PageStore for Bank<P> as BankPageStore {
         ensures slots { λ _. ⌜ now (self .exit) .slots ≡ now (self .entry) .slots ⌝ }
         ensures below { λ _. ⌜ P·PageStore .words (now (self .exit) .below) ≡ P·PageStore .words (now (self .entry) .below) ⌝ }
     {
-        if place >= self.below.size() {
+        if place >= self.size_below() {
             return Err(Outside);
         }
         match self.changed(place) {
             Some(word) => Ok(word),
-            None => self.below.read(place),
+            None => self.read_below(place),
         }
     }
 
@@ -41,7 +41,7 @@ pub impl<P: PageStore> PageStore for Bank<P> as BankPageStore {
         ensures slots { λ _. ⌜ now (self .exit) .slots ≡ slots-after (now (self .entry) .slots) (P·PageStore .words (now (self .entry) .below)) place word ⌝ }
         ensures below { λ _. ⌜ P·PageStore .words (now (self .exit) .below) ≡ below-after (now (self .entry) .slots) (P·PageStore .words (now (self .entry) .below)) place ⌝ }
     {
-        if place >= self.below.size() {
+        if place >= self.size_below() {
             return Err(Outside);
         }
         self.make_way(place);
@@ -51,6 +51,22 @@ pub impl<P: PageStore> PageStore for Bank<P> as BankPageStore {
 }
 
 impl<P: PageStore> Bank<P> {
+    // The number of words below, which is the bank's too.
+    fn size_below(&self) -> u16
+        ensures { λ r. ⌜ r ≡ length (words (now (self .entry) .below)) ⌝ }
+    {
+        self.below.size()
+    }
+
+    // Reads below, and fills nothing.
+    fn read_below(&mut self, place: u16) -> Result<Word, Outside>
+        ensures answer { λ r. ⌜ r ≡ read-answer (words (now (self .entry) .below)) place ⌝ }
+        ensures slots { λ _. ⌜ now (self .exit) .slots ≡ now (self .entry) .slots ⌝ }
+        ensures below { λ _. ⌜ words (now (self .exit) .below) ≡ words (now (self .entry) .below) ⌝ }
+    {
+        self.below.read(place)
+    }
+
     // What the slot of a place holds.
     fn held(&self, place: u16) -> Option<Change>
         ensures { λ r. ⌜ r ≡ slot-for (now (self .entry) .slots) place ⌝ }

@@ -1,7 +1,8 @@
-use mathlib.Core.Path.{_∙_}
+use mathlib.Core.Path.{sym, _∙_}
 use Prim.Native.Nat.{_<_}
 use native.Mathlib.Omega.{arith}
-use Rattle.page.proofs.BankDrain.{drain-keeps, drain-more, all-empty, drained}
+use Rattle.page.proofs.BankDrain.{drain-keeps, drain-more, all-empty}
+use Rattle.page.proofs.Slots.{laid-empty}
 use Rattle.page.proofs.bank.Bank.drain.Needs as need
 
 pub loop-slot-again : need.loop-slot-again
@@ -17,6 +18,6 @@ returns g c =
     let empty = all-empty (bank .slots) (bank .full) (λ k h. c .loop-slot .inv .0 k (omega arith)) in
     record {
       slots = empty;
-      below = drained (bank .slots) (g .P·PageStore .words (bank .below)) empty ∙ c .loop-slot .inv .1;
+      below = sym (laid-empty (bank .slots) (g .P·PageStore .words (bank .below)) empty) ∙ c .loop-slot .inv .1;
       same = c .loop-slot .inv .1;
     }

@@ -3,4 +3,4 @@ use Rattle.page.proofs.ByteWords.{length-words}
 use Rattle.page.proofs.bytes.BytesPageStore.size.Needs as need
 
 pub returns : need.returns
-returns c = c .min .ensures ∙ sym (length-words (c .args .self .now .bytes .now))
+returns c = c .groups .ensures ∙ sym (length-words (c .args .self .now .bytes .now))

@@ -1,6 +1,6 @@
 use borrow.Author.Needs.{needs}
 use mathlib.Core.Path.{_≡_, _∙_, ap}
-use Prim.Native.Nat.{_+_, _-_, _*_}
+use Prim.Native.Nat.{_+_, _-_}
 use native.Mathlib.Omega.{arith}
 use Rattle.page.specs.ByteWords.{byte-words}
 use Rattle.page.proofs.ByteWords.{length-words, words-after, bytes-inside, bytes-outside}
@@ -23,9 +23,10 @@ part-copy-from-slice-end c = omega (arith, length-words (c .args .self .now .byt
 pub returns : need.returns
 returns c =
     let bytes = c .args .self .now .bytes .now in
-    let at = c .args .place * 8 in
-    let written = bytes-inside bytes (c .args .place) (at + 8 - at) (c .args .word) (c .copy-from-slice .last .self)
+    let at = c .start-of-at .result in
+    let written = bytes-inside bytes (c .args .place) at (at + 8 - at) (c .args .word) (c .copy-from-slice .last .self)
     (omega arith)
+    (c .start-of-at .ensures)
     (omega arith)
     (c .copy-from-slice .ensures .after ∙ c .bytes-of-group .ensures .value) in
     record {

@@ -5,4 +5,6 @@ use Rattle.page.proofs.Marks.{blank-from-zero}
 use Rattle.page.proofs.table.Table.new.Needs as need
 
 pub returns : need.returns
-returns c = ap (λ (w : Word). replicate 4096 w) (blank-from-zero (c .blank .result) (c .blank .ensures))
+returns c =
+    let blank = c .blank-word-blank in
+    ap (λ (x : Word). replicate 4096 x) (blank-from-zero (blank .result) (blank .ensures .value) (blank .ensures .mark))

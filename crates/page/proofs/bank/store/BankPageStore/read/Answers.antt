@@ -1,11 +1,12 @@
 use mathlib.Core.Path.{refl, _∙_, ap}
 use native.Mathlib.Omega.{arith}
+use Rattle.page.specs.Pages.{read-answer}
 use Rattle.page.specs.Slots.{laid}
-use Rattle.page.proofs.BankCalls.{read-outside, read-held, read-through}
+use Rattle.page.proofs.BankCalls.{read-outside, read-held, read-through, laid-same}
 use Rattle.page.proofs.bank.store.BankPageStore.read.Needs as need
 
-pub returns-then-place-size : need.returns-then-place-size
-returns-then-place-size g c =
+pub returns-then-place-size-below : need.returns-then-place-size-below
+returns-then-place-size-below g c =
     let slots = c .args .self .now .slots in
     let below = g .P·PageStore .words (c .args .self .now .below) in
     record {
@@ -32,8 +33,9 @@ returns-in-None g c =
     let below = g .P·PageStore .words (c .args .self .now .below) in
     record {
       answer =
-          c .read .ensures .answer ∙ read-through slots below (c .args .place) (omega arith) (c .in-None .ensures tt);
-      same = ap (laid slots) (c .read .ensures .same);
-      slots = refl {a = slots};
-      below = c .read .ensures .same;
+          _∙_ {b = read-answer below (c .args .place)} (c .read-below .ensures .answer)
+          (read-through slots below (c .args .place) (omega arith) (c .in-None .ensures tt));
+      same = laid-same slots below (c .read-below .last .self .slots) _ (c .read-below .ensures .slots) (c .read-below .ensures .below);
+      slots = c .read-below .ensures .slots;
+      below = c .read-below .ensures .below;
     }

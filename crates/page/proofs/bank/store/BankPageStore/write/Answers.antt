@@ -3,8 +3,8 @@ use native.Mathlib.Omega.{arith}
 use Rattle.page.proofs.BankCalls.{write-inside, write-outside, laid-inside, laid-outside, slots-inside, slots-outside, below-inside, below-outside}
 use Rattle.page.proofs.bank.store.BankPageStore.write.Needs as need
 
-pub returns-then-place-size : need.returns-then-place-size
-returns-then-place-size g c =
+pub returns-then-place-size-below : need.returns-then-place-size-below
+returns-then-place-size-below g c =
     let slots = c .args .self .now .slots in
     let below = g .P·PageStore .words (c .args .self .now .below) in
     record {

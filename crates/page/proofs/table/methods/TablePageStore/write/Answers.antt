@@ -2,5 +2,5 @@ use borrow.Author.Needs.{needs}
 use Rattle.std.proofs.shelf.Lists.{set-past}
 use Rattle.page.proofs.table.methods.TablePageStore.write.Needs as need
 
-pub returns-else-place-lt4096 : need.returns-else-place-lt4096
-returns-else-place-lt4096 c = search (needs, set-past)
+pub returns-else-is-inside : need.returns-else-is-inside
+returns-else-is-inside c = search (needs, set-past)
