@@ -1,0 +1,7 @@
+//! Jobs: a reader over a job's bytes, and an encoder into them. It knows of figures and calls, and nothing of boards,
+//! pages or signatures.
+
+mod layout;
+pub mod reader;
+
+pub use reader::Job;
