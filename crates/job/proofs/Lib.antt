@@ -1,2 +1,3 @@
 -- Lemmas on the bytes of jobs.
 pub mod Fields
+pub mod Records

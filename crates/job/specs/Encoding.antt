@@ -54,7 +54,7 @@ contents f records =
     f .cores
     ∷ f .slots
     ∷ (big-endian 2 (f .words)
-       ++ (big-endian 2 (f .strip) ++ (0 ∷ 0 ∷ (big-endian 4 (f .allowance) ++ big-endian 4 records))))
+    ++ (big-endian 2 (f .strip) ++ (0 ∷ 0 ∷ (big-endian 4 (f .allowance) ++ big-endian 4 records))))
 
 -- the job of these figures and calls
 abbrev pub encode : Five → List Call → List ℕ

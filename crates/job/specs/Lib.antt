@@ -3,3 +3,4 @@ pub mod Bytes
 pub mod Encoding
 pub mod Reading
 pub mod Laws
+pub mod Jobs

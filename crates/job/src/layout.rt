@@ -35,10 +35,19 @@ fn call_of(letter: u8, lock: u8, word: u16, payload: u64, caller: u8) -> Option<
         'L' => only_if(core && lock == 0 && payload == 0, Call::Load(caller, word)),
         'S' => store_of(lock, word, payload, caller),
         'E' => only_if(core && lock == 0 && payload == 0, Call::Evict(caller, word)),
-        'A' => only_if(core && word == 0 && payload == 0, Call::Acquire(caller, lock)),
-        'R' => only_if(core && word == 0 && payload == 0, Call::Release(caller, lock)),
+        'A' => only_if(
+            core && word == 0 && payload == 0,
+            Call::Acquire(caller, lock),
+        ),
+        'R' => only_if(
+            core && word == 0 && payload == 0,
+            Call::Release(caller, lock),
+        ),
         'P' => only_if(conductor && lock == 0 && word == 0, Call::Phase(payload)),
-        'T' => only_if(conductor && lock == 0 && word == 0 && payload == 0, Call::Settle),
+        'T' => only_if(
+            conductor && lock == 0 && word == 0 && payload == 0,
+            Call::Settle,
+        ),
         _ => None,
     }
 }
@@ -49,7 +58,10 @@ fn payload_and_caller(rest: &[u8]) -> Option<(u64, u8)>
 {
     match rest {
         [a, b, c, d, e, f, g, h, caller] => {
-            Some((u64::from_be_bytes([*a, *b, *c, *d, *e, *f, *g, *h]), *caller))
+            Some((
+                u64::from_be_bytes([*a, *b, *c, *d, *e, *f, *g, *h]),
+                *caller,
+            ))
         }
         _ => None,
     }
@@ -64,5 +76,11 @@ pub fn spelled_call(bytes: &[u8]) -> Option<Call>
         return None;
     };
     let (payload, caller) = payload_and_caller(rest)?;
-    call_of(*letter, *lock, u16::from_be_bytes([*hi, *lo]), payload, caller)
+    call_of(
+        *letter,
+        *lock,
+        u16::from_be_bytes([*hi, *lo]),
+        payload,
+        caller,
+    )
 }
