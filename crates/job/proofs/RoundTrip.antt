@@ -12,7 +12,8 @@ use Rattle.std.proofs.shelf.Lists.{take-append-drop, length-take-le, length-dro
 use Rattle.std.specs.Vec.{listOf}
 use Rattle.std.specs.declared.option.Option.{Option}
 use Rattle.std.specs.declared.option.Option.the-variants.{Some, None}
-use Rattle.std.specs.declared.result.Result.the-variants.{Ok}
+use Rattle.std.specs.declared.result.Result.{Result}
+use Rattle.std.specs.declared.result.Result.the-variants.{Ok, Err}
 use Rattle.std.specs.shelf.Digits.{number, Under}
 use Rattle.std.specs.shelf.Lists.{All, joined}
 use Rattle.call.specs.Figures.{Five, five, checked}
@@ -22,7 +23,8 @@ use Rattle.call.specs.declared.fault.JobFault.the-variants.{Record}
 use Rattle.job.specs.Bytes.{big-endian, part, field}
 use Rattle.job.specs.Encoding.{record-bytes, contents, encode, Lawful-call}
 use Rattle.job.specs.Laws.{Reads-back, Encodes-again}
-use Rattle.job.specs.Reading.{spelled, unless-spelled, records-fault, calls, none, job-figures, job-records, job-calls}
+use Rattle.job.specs.Jobs.{figures-read, calls-read, Encoded}
+use Rattle.job.specs.Reading.{Says, reading, spelled, unless-spelled, records-fault, calls, none, job-figures, job-records, job-calls}
 use Rattle.job.proofs.BigEndian.{number-back, field-back}
 use Rattle.job.proofs.Records.{length-calls}
 use Rattle.job.proofs.Spelling.{record-back, spelled-back, part-take}
@@ -99,3 +101,18 @@ encodes-again bytes f cs under h =
     ∙ (λ i. head i ++ body i)
     ∙ ap (λ (n : ℕ). contents (job-figures bytes) n ++ joined record-bytes (job-calls bytes)) (sym count)
     ∙ (λ i. encode (lays .figures-are i) (lays .calls-are i))
+
+-- the same of a job that was opened, by its verdict and its calls
+pub encoded-so : (bytes : List ℕ) (v : Result Five JobFault) (cs : List Call) → Under 256 bytes → v ≡ figures-read (reading bytes) → cs ≡ calls-read (reading bytes) → Encoded v cs bytes
+encoded-so bytes v cs under hv hc = go (reading bytes) refl
+  where
+    go : (r : Result Says JobFault) → reading bytes ≡ r → Encoded v cs bytes
+    go (Ok s) e =
+        let figures : Ok (s .figures) ≡ v = sym (hv ∙ ap figures-read e) in
+        let calls-are : s .calls ≡ cs = sym (hc ∙ ap calls-read e) in
+        let same : bytes ≡ encode (s .figures) cs =
+            encodes-again bytes (s .figures) (s .calls) under e ∙ ap (encode (s .figures)) calls-are in
+        subst (λ (x : Result Five JobFault). Encoded x cs bytes) figures same
+    go (Err d) e =
+        let fault : Err d ≡ v = sym (hv ∙ ap figures-read e) in
+        subst (λ (x : Result Five JobFault). Encoded x cs bytes) fault tt

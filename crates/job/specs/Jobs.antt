@@ -1,6 +1,8 @@
 -- What a job that was opened holds: its figures or its fault, its calls, and those that are still to be read.
 -- Assumes nothing.
 use mathlib.Core.List.{List, [], _∷_}
+use mathlib.Core.Path.{_≡_}
+use Prim.Native.Nat.{ℕ}
 use lib.ListN.{drop}
 use Rattle.std.specs.declared.option.Option.{Option}
 use Rattle.std.specs.declared.option.Option.the-variants.{Some, None}
@@ -10,6 +12,7 @@ use Rattle.call.specs.Figures.{Five, figures}
 use Rattle.call.specs.declared.figures.Figures.{Figures}
 use Rattle.call.specs.declared.call.Call.{Call}
 use Rattle.call.specs.declared.fault.JobFault.{JobFault}
+use Rattle.job.specs.Encoding.{encode}
 use Rattle.job.specs.Reading.{Says, says, calls}
 use Rattle.job.specs.declared.reader.Job.{Job}
 
@@ -44,3 +47,8 @@ figures-read (Err e) = Err e
 abbrev pub calls-read : Result Says JobFault → List Call
 calls-read (Ok s) = s .calls
 calls-read (Err e) = []
+
+-- bytes are the encoding of the figures and the calls that were read from them; of a job that is refused it says nothing
+abbrev pub Encoded : Result Five JobFault → List Call → List ℕ → Type 0
+Encoded (Ok f) cs bytes = bytes ≡ encode f cs
+Encoded (Err e) cs bytes = Unit {0}

@@ -7,7 +7,8 @@ ghost use Rattle.std.specs.declared.option.Option.the-variants.{Some, None};
 ghost use Rattle.std.specs.declared.result.Result.the-variants.{Ok};
 ghost use Rattle.call.specs.Figures.{figures, checked};
 ghost use Rattle.job.specs.Reading.{figures-fault, count-fault, records-fault, job-figures, job-records, job-fault, reading};
-ghost use Rattle.job.specs.Jobs.{numbers, verdict-of, calls-of, rest, first, figures-read, calls-read};
+ghost use Rattle.job.specs.Jobs.{numbers, verdict-of, calls-of, rest, first, figures-read, calls-read, Encoded};
+ghost use Rattle.job.specs.Laws.{Reads-back, Encodes-again};
 use super::Job;
 use crate::layout::spelled_call;
 use call::Call;
@@ -93,6 +94,8 @@ impl<'a> Job<'a> {
         ensures value { λ r. ⌜ verdict-of r ≡ figures-read (reading (now (bytes .entry))) ⌝ }
         ensures calls { λ r. ⌜ calls-of r ≡ calls-read (reading (now (bytes .entry))) ⌝ }
         ensures start { λ r. ⌜ rest r ≡ calls-of r ⌝ }
+        ensures encoded { λ r. ⌜ Encoded (verdict-of r) (calls-of r) (now (bytes .entry)) ⌝ }
+        ensures law { λ _. ⌜ Reads-back × Encodes-again ⌝ }
     {
         match check(bytes) {
             Ok(found) => Job {
