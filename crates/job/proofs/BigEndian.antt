@@ -16,7 +16,7 @@ shifted : (m d k : ℕ) → (m * 256 + d) * 256 ^ k ≡ m * 256 ^ suc k + d * 25
 shifted m d k =
     let apart = add-mul (m * 256) d (256 ^ k) in
     let weight : m * 256 ^ suc k ≡ m * 256 * 256 ^ k =
-        ap (λ (x : ℕ). m * x) (pow-succ' 256 k) ∙ sym (mul-assoc m 256 (256 ^ k)) in
+    ap (λ (x : ℕ). m * x) (pow-succ' 256 k) ∙ sym (mul-assoc m 256 (256 ^ k)) in
     omega arith
 
 some-weight : (k : ℕ) → 0 < 256 ^ k
@@ -43,7 +43,7 @@ number-after m (suc size) n =
     let rest = number-after (m * 256 + digit) size n in
     let whole = shifted m digit size in
     let split : n % 256 ^ suc size ≡ digit * 256 ^ size + n % 256 ^ size =
-        ap (λ (x : ℕ). n % x) (pow-succ' 256 size) ∙ mod-mul n {m = 256} {c = 256 ^ size} (omega arith) (some-weight size) in
+    ap (λ (x : ℕ). n % x) (pow-succ' 256 size) ∙ mod-mul n {m = 256} {c = 256 ^ size} (omega arith) (some-weight size) in
     omega arith
 
 -- a number that fits so many bytes is the number that they are
@@ -59,9 +59,9 @@ bytes-after m (d ∷ ds) u =
     let rest = bytes-after (m * 256 + d) ds (u .1) in
     let low = number-lt 256 ds (u .1) in
     let top : numberAfter 256 (m * 256 + d) ds / 256 ^ length ds ≡ m * 256 + d =
-        ap (λ (x : ℕ). x / 256 ^ length ds) (numberAfter-is (m * 256 + d) ds) ∙ digits-div (m * 256 + d) low in
+    ap (λ (x : ℕ). x / 256 ^ length ds) (numberAfter-is (m * 256 + d) ds) ∙ digits-div (m * 256 + d) low in
     let digit : numberAfter 256 (m * 256 + d) ds / 256 ^ length ds % 256 ≡ d =
-        ap (λ (x : ℕ). x % 256) top ∙ digits-mod m (u .0) in
+    ap (λ (x : ℕ). x % 256) top ∙ digits-mod m (u .0) in
     λ i. digit i ∷ rest i
 
 -- bytes are those of the number that they are

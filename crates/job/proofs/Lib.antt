@@ -5,3 +5,4 @@ pub mod BigEndian
 pub mod Spelling
 pub mod Verdict
 pub mod RoundTrip
+pub mod Writing

@@ -40,9 +40,10 @@ body-spells : (cs : List Call) (place : ℕ) → All Lawful-call cs → (records
 body-spells [] place h = (refl, refl)
 body-spells (c ∷ cs) place h =
     let rest = body-spells cs (place + 13) (h .1) in
-    let here = record-back c (h .0) in
-    (ap (λ (o : Option Call). unless-spelled o (Record place) (records-fault (length cs) (place + 13) (joined record-bytes cs))) here ∙ rest .0,
-     ap (λ (o : Option Call). listOf o ++ calls (length cs) (joined record-bytes cs)) here ∙ ap (λ (ds : List Call). c ∷ ds) (rest .1))
+    let here = record-back c (h .0) in (
+      ap (λ (o : Option Call). unless-spelled o (Record place) (records-fault (length cs) (place + 13) (joined record-bytes cs))) here ∙ rest .0,
+      ap (λ (o : Option Call). listOf o ++ calls (length cs) (joined record-bytes cs)) here ∙ ap (λ (ds : List Call). c ∷ ds) (rest .1),
+    )
 
 pub reads-back : Reads-back
 reads-back f cs ok lawful few =
@@ -55,13 +56,13 @@ reads-back f cs ok lawful few =
     let long = length-body cs in
     read-so (encode f cs) f cs ok
     (record {
-       figures-are = λ i. five (f .cores) (f .slots) (words i) (strip i) (allowance i);
-       zeros = refl;
-       few = omega (arith, count);
-       long = omega (arith, count, long);
-       lawful = ap (λ (n : ℕ). records-fault n 16 (joined record-bytes cs)) count ∙ body .0;
-       calls-are = ap (λ (n : ℕ). calls n (joined record-bytes cs)) count ∙ body .1
-     })
+      figures-are = λ i. five (f .cores) (f .slots) (words i) (strip i) (allowance i);
+      zeros = refl;
+      few = omega (arith, count);
+      long = omega (arith, count, long);
+      lawful = ap (λ (n : ℕ). records-fault n 16 (joined record-bytes cs)) count ∙ body .0;
+      calls-are = ap (λ (n : ℕ). calls n (joined record-bytes cs)) count ∙ body .1;
+    })
 
 -- so many records, none against its layout, are the records of the calls that they spell
 body-again : (n place : ℕ) (body : List ℕ) → length body ≡ 13 * n → Under 256 body → records-fault n place body ≡ None → body ≡ joined record-bytes (calls n body)
@@ -86,7 +87,7 @@ head-again bytes long under zeros =
     let allowance = sym (field-back bytes 8 4 under) in
     let count = sym (field-back bytes 12 4 under) in
     let same : part bytes 0 16 ≡ contents (job-figures bytes) (job-records bytes) =
-        λ i. getD bytes 0 0 ∷ getD bytes 1 0 ∷ (words i ++ (strip i ++ (empty i ++ (allowance i ++ count i)))) in
+    λ i. getD bytes 0 0 ∷ getD bytes 1 0 ∷ (words i ++ (strip i ++ (empty i ++ (allowance i ++ count i)))) in
     sym (part-take bytes 16 long) ∙ same
 
 pub encodes-again : Encodes-again
@@ -111,7 +112,7 @@ encoded-so bytes v cs under hv hc = go (reading bytes) refl
         let figures : Ok (s .figures) ≡ v = sym (hv ∙ ap figures-read e) in
         let calls-are : s .calls ≡ cs = sym (hc ∙ ap calls-read e) in
         let same : bytes ≡ encode (s .figures) cs =
-            encodes-again bytes (s .figures) (s .calls) under e ∙ ap (encode (s .figures)) calls-are in
+        encodes-again bytes (s .figures) (s .calls) under e ∙ ap (encode (s .figures)) calls-are in
         subst (λ (x : Result Five JobFault). Encoded x cs bytes) figures same
     go (Err d) e =
         let fault : Err d ≡ v = sym (hv ∙ ap figures-read e) in

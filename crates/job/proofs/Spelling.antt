@@ -80,12 +80,12 @@ kind-back : (letter : ℕ) (k : Kind) → kind-by letter ≡ Some k → letter �
 kind-back letter k h =
     by-letter letter kind.Load k _
     (by-letter letter kind.Store k _
-     (by-letter letter kind.Evict k _
-      (by-letter letter kind.Acquire k _
-       (by-letter letter kind.Release k _
-        (by-letter letter kind.Phase k _
-         (by-letter letter kind.Settle k None
-          (λ is. let z : _≡_ {A = ℕ} 0 1 = cc in let no-way : ⊥ = omega arith in absurd no-way)))))))
+    (by-letter letter kind.Evict k _
+    (by-letter letter kind.Acquire k _
+    (by-letter letter kind.Release k _
+    (by-letter letter kind.Phase k _
+    (by-letter letter kind.Settle k None
+    (λ is. let z : _≡_ {A = ℕ} 0 1 = cc in let no-way : ⊥ = omega arith in absurd no-way)))))))
     h
 
 -- a call has these fields
@@ -176,5 +176,5 @@ spelled-back bytes c long under h = go (kind-by (getD bytes 0 0)) refl h
         let caller : getD bytes 12 0 ≡ caller-of c = sym (has .caller-is) in
         let cut : bytes ≡ part bytes 0 13 = sym (take-all 13 bytes (omega arith)) ∙ sym (part-take bytes 13 (omega arith)) in
         let same : row (getD bytes 0 0) (getD bytes 1 0) (part bytes 2 2) (part bytes 4 8) (getD bytes 12 0) ≡ row (letter-of (kind-of c)) (lock-of c) (big-endian 2 (word-of c)) (big-endian 8 (payload-of c)) (caller-of c) =
-            λ i. row (letter i) (lock i) (word i) (payload i) (caller i) in
+        λ i. row (letter i) (lock i) (word i) (payload i) (caller i) in
         cut ∙ same

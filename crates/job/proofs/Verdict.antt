@@ -71,8 +71,8 @@ read-so bytes f cs ok lays =
     let short : ltb (length bytes) 16 ≡ false = le-ltb (length bytes) 16 (omega (arith, lays .long)) in
     let good : checked (job-figures bytes) ≡ Ok f = ap checked (lays .figures-are) ∙ ok in
     let figures : figures-fault bytes ≡ None =
-        ap (λ (b : Bool). cond b (Some (fault.Short (length bytes))) (unless-figures (checked (job-figures bytes)) None)) short
-        ∙ ap (λ (r : Result Five FigureFault). unless-figures r None) good in
+    ap (λ (b : Bool). cond b (Some (fault.Short (length bytes))) (unless-figures (checked (job-figures bytes)) None)) short
+    ∙ ap (λ (r : Result Five FigureFault). unless-figures r None) good in
     let empty : eqb (field bytes 6 2) 0 ≡ true = eq-eqb (field bytes 6 2) 0 (lays .zeros) in
     let some : leb (job-records bytes) 4608 ≡ true = le-leb (job-records bytes) 4608 (lays .few) in
     let exact : eqb (length bytes) (16 + 13 * job-records bytes) ≡ true = eq-eqb (length bytes) (16 + 13 * job-records bytes) (lays .long) in
@@ -96,5 +96,5 @@ lays-so bytes f cs h =
       few = leb-true (job-records bytes) 4608 (both .0);
       long = eqb-true (length bytes) (16 + 13 * job-records bytes) (both .1);
       lawful = parts .1;
-      calls-are = ap (λ (s : Says). s .calls) (said .1)
+      calls-are = ap (λ (s : Says). s .calls) (said .1);
     }

@@ -1,8 +1,8 @@
 -- A job as bytes: the contents, 16 bytes, and then 13 bytes for each call. Assumes nothing.
-use mathlib.Core.Bool.{Bool, true}
+use mathlib.Core.Bool.{Bool, true, _&&_}
 use mathlib.Core.List.{List, [], _∷_, _++_}
-use Prim.Native.Nat.{ℕ, _<_, _≤_, _^_}
-use lib.Dec.{ltb}
+use Prim.Native.Nat.{ℕ, _+_, _*_, _^_, _<_}
+use lib.Dec.{leb, ltb}
 use lib.ListN.{length}
 use Rattle.std.specs.shelf.Lists.{joined}
 use Rattle.call.specs.Calls.{caller-of, kind-of, letter-of}
@@ -69,3 +69,21 @@ Lawful-call (call.Acquire core lock) = (core < 8) × (lock < 2 ^ 8)
 Lawful-call (call.Release core lock) = (core < 8) × (lock < 2 ^ 8)
 Lawful-call (call.Phase plan) = plan < 2 ^ 64
 Lawful-call call.Settle = Unit {0}
+
+-- whether the core that makes a call is one of 0 to 7; the conductor always may
+abbrev pub by-lawful-core : Call → Bool
+by-lawful-core (call.Load core word) = ltb core 8
+by-lawful-core (call.Store core word value) = ltb core 8
+by-lawful-core (call.Evict core word) = ltb core 8
+by-lawful-core (call.Acquire core lock) = ltb core 8
+by-lawful-core (call.Release core lock) = ltb core 8
+by-lawful-core (call.Phase plan) = true
+by-lawful-core call.Settle = true
+
+abbrev pub all-lawful : List Call → Bool
+all-lawful [] = true
+all-lawful (c ∷ cs) = by-lawful-core c && all-lawful cs
+
+-- whether calls can be encoded into so many bytes: there are at most 4,608, their cores are lawful, and they have room
+abbrev pub encodable : List Call → ℕ → Bool
+encodable cs room = leb (length cs) 4608 && (leb (16 + 13 * length cs) room && all-lawful cs)

@@ -17,5 +17,5 @@ returns c =
       calls = search needs;
       start = search needs;
       encoded = encoded-so bytes (numbers (c .match-check .result .1 .0)) _ under value (search needs);
-      law = (reads-back, encodes-again)
+      law = (reads-back, encodes-again);
     }
