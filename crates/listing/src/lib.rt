@@ -1,0 +1,3 @@
+//! The text of a job: its figures and its calls in plain words, or the one line of its fault.
+
+pub mod lines;
