@@ -1,2 +1,3 @@
 -- Lemmas on the lines of a job's text.
 pub mod Strips
+pub mod Texts
