@@ -70,7 +70,7 @@ fn plan_text(heap: Global, plan: u64) -> Result<String, AllocError>
     Ok(text)
 }
 
-/// The line of a call, with its number among the job's calls. No two calls, and no two numbers, have the same line.
+/// The line of a call, with its number among the job's calls.
 pub fn call_line(heap: Global, number: u16, call: Call) -> Result<String, AllocError>
     ensures { λ r. ⌜ made r (λ s. string-bytes s ≡ call-line number call) ⌝ }
 {
