@@ -41,9 +41,10 @@ split : (ds : List ℕ) (x : ℕ) (xs : List ℕ) → Digits 10 ds → is-digit 
 split [] x xs u f = (ap (λ (b : Bool). cond b (x ∷ lead xs) []) f, ap (λ (b : Bool). cond b (past xs) (x ∷ xs)) f)
 split (d ∷ ds) x xs u f =
     let digit = lt-ltb (digitValue d) 10 (u .0) in
-    let rest = split ds x xs (u .1) f in
-    (ap (λ (b : Bool). cond b (d ∷ lead (ds ++ x ∷ xs)) []) digit ∙ ap (λ (es : List ℕ). d ∷ es) (rest .0),
-     ap (λ (b : Bool). cond b (past (ds ++ x ∷ xs)) (d ∷ (ds ++ x ∷ xs))) digit ∙ rest .1)
+    let rest = split ds x xs (u .1) f in (
+      ap (λ (b : Bool). cond b (d ∷ lead (ds ++ x ∷ xs)) []) digit ∙ ap (λ (es : List ℕ). d ∷ es) (rest .0),
+      ap (λ (b : Bool). cond b (past (ds ++ x ∷ xs)) (d ∷ (ds ++ x ∷ xs))) digit ∙ rest .1,
+    )
 
 -- a number before a byte that is no digit is read back
 number-back : (n x : ℕ) (xs : List ℕ) → n < 2 ^ 64 → is-digit x ≡ false → (number-in (decimal n ++ x ∷ xs) ≡ n) × (past (decimal n ++ x ∷ xs) ≡ x ∷ xs)

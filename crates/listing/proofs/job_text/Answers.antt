@@ -18,9 +18,9 @@ returns-in-Continue-text c =
     let head = c .in-Continue-text .ensures tt in
     let count = c .records .ensures in
     let whole : string-bytes (c .in-Continue-text .text) ++ call-lines 1 (rest job) ≡ job-text bytes =
-        (λ i. head i ++ call-lines 1 (c .open-job .ensures .start i))
-        ∙ (λ i. figures-line (figures (c .in-Ok .figures)) (count i) ++ call-lines 1 (calls-of job))
-        ∙ text-so (reading bytes) (figures (c .in-Ok .figures)) (calls-of job) (c .in-Ok .ensures tt ∙ c .open-job .ensures .value) (c .open-job .ensures .calls) in
+    (λ i. head i ++ call-lines 1 (c .open-job .ensures .start i))
+    ∙ (λ i. figures-line (figures (c .in-Ok .figures)) (count i) ++ call-lines 1 (calls-of job))
+    ∙ text-so (reading bytes) (figures (c .in-Ok .figures)) (calls-of job) (c .in-Ok .ensures tt ∙ c .open-job .ensures .value) (c .open-job .ensures .calls) in
     record { value = made-weaker (c .with-calls .result) _ _ (λ s e. e ∙ whole) (c .with-calls .ensures); apart = lines-apart }
 
 pub returns-in-Break-text : need.returns-in-Break-text
