@@ -6,16 +6,14 @@ use mathlib.Core.Path.{_≡_, refl, sym, ap, _∙_}
 use Prim.Native.Nat.{ℕ, _+_, _-_, _*_, _<_, _≤_}
 use native.Mathlib.Omega.{arith}
 use borrow.Rule.Slice.PartMut.{putMid, postOf}
-use lib.Dec.{leb}
 use lib.ListN.{length, getD, take, drop}
 use Rattle.std.proofs.shelf.Lists.{append-assoc, length-append, length-take-le, take-at, drop-at, drop-drop, take-more, take-all, joined-more, at-drop-more}
-use Rattle.std.proofs.shelf.Tests.{le-leb, and-from}
 use Rattle.std.specs.declared.result.Result.the-variants.{Ok}
 use Rattle.std.specs.shelf.Lists.{joined}
 use Rattle.call.specs.Figures.{Five, figures, checked}
 use Rattle.call.specs.declared.figures.Figures.{Figures}
 use Rattle.call.specs.declared.call.Call.{Call}
-use Rattle.job.specs.Encoding.{record-bytes, contents, encode, by-lawful-core, all-lawful, encodable}
+use Rattle.job.specs.Encoding.{record-bytes, contents, encode, by-lawful-core, all-lawful}
 use Rattle.job.proofs.RoundTrip.{length-body}
 
 -- the test of the calls from one on
@@ -62,11 +60,6 @@ pub all-written : (bytes : List ℕ) (cs : List Call) (i : ℕ) → i ≡ length
 all-written bytes cs i e =
     ap (with-records bytes cs) e
     ∙ ap (λ (ds : List Call). take 16 bytes ++ (joined record-bytes ds ++ drop (16 + 13 * length cs) bytes)) (take-all (length cs) cs (omega arith))
-
--- calls that pass the three tests can be encoded
-pub is-encodable : (cs : List Call) (room : ℕ) → length cs ≤ 4608 → 16 + 13 * length cs ≤ room → all-lawful cs ≡ true → encodable cs room ≡ true
-is-encodable cs room few fits lawful =
-    and-from _ _ (le-leb (length cs) 4608 few) (and-from _ _ (le-leb (16 + 13 * length cs) room fits) lawful)
 
 -- with the contents before the records it is the whole job, and the bytes past it are as they were
 pub headed : (f : Five) (cs : List Call) (bytes out head : List ℕ) → 16 ≤ length bytes → out ≡ take 16 bytes ++ (joined record-bytes cs ++ drop (16 + 13 * length cs) bytes) → head ≡ contents f (length cs) → head ++ drop 16 out ≡ encode f cs ++ drop (16 + 13 * length cs) bytes

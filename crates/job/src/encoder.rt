@@ -109,8 +109,19 @@ fn write_records(calls: &[Call], out: &mut [u8])
     }
 }
 
+// Writes a whole job into the first bytes of `out`.
+fn write_job(figures: &Figures, calls: &[Call], out: &mut [u8])
+    requires { ⌜ length (now calls) ≤ 4608 ⌝ ∗ ⌜ 16 + 13 * length (now calls) ≤ length (now out) ⌝ }
+    ensures after { λ _. ⌜ now (out .exit) ≡ encoding (numbers-of (now (figures .entry))) (now (calls .entry)) ++ drop (16 + 13 * length (now (calls .entry))) (now (out .entry)) ⌝ }
+    ensures reads { λ _. ⌜ (All Lawful-call (now (calls .entry)) → reading (encoding (numbers-of (now (figures .entry))) (now (calls .entry))) ≡ Ok (says (numbers-of (now (figures .entry))) (now (calls .entry)))) ⌝ }
+{
+    write_records(calls, out);
+    out[0..16].copy_from_slice(&contents_of(figures, calls.len() as u32));
+}
+
 /// Writes the job of these figures and calls into the first bytes of `out`, leaves the bytes past it as they were, and gives
-/// its length; what is written is read back as these figures and calls. It refuses more than 4,608 calls, a call by a core above 7 and too little room, and then writes nothing.
+/// its length; what is written is read back as these figures and calls. It refuses more than 4,608 calls, a call by a core
+/// above 7 and too little room, and then writes nothing.
 pub fn encode(figures: &Figures, calls: &[Call], out: &mut [u8]) -> Option<usize>
     ensures value { λ r. ⌜ r ≡ cond (encodable (now (calls .entry)) (length (now (out .entry)))) (Some (16 + 13 * length (now (calls .entry)))) None ⌝ }
     ensures after { λ _. ⌜ now (out .exit) ≡ cond (encodable (now (calls .entry)) (length (now (out .entry)))) (encoding (numbers-of (now (figures .entry))) (now (calls .entry)) ++ drop (16 + 13 * length (now (calls .entry))) (now (out .entry))) (now (out .entry)) ⌝ }
@@ -120,7 +131,6 @@ pub fn encode(figures: &Figures, calls: &[Call], out: &mut [u8]) -> Option<usize
     if size > 4_608 || out.len() < 16 + 13 * size || !all_lawful(calls) {
         return None;
     }
-    write_records(calls, out);
-    out[0..16].copy_from_slice(&contents_of(figures, size as u32));
+    write_job(figures, calls, out);
     Some(16 + 13 * size)
 }

@@ -68,7 +68,7 @@ fn payload_and_caller(rest: &[u8]) -> Option<(u64, u8)>
 }
 
 // The call that the 13 bytes of a record spell, if they have its layout.
-pub fn spelled_call(bytes: &[u8]) -> Option<Call>
+pub(crate) fn spelled_call(bytes: &[u8]) -> Option<Call>
     requires { ⌜ length (now bytes) ≡ 13 ⌝ }
     ensures { λ r. ⌜ r ≡ spelled (now (bytes .entry)) ⌝ }
 {

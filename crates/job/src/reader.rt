@@ -4,7 +4,7 @@ ghost use mathlib.Core.Bool.{true};
 ghost use mathlib.Core.Path.{_≡_};
 ghost use Prim.Native.Nat.{_-_, _*_, _≤_};
 ghost use lib.ListN.{length, drop};
-ghost use Rattle.job.specs.Reading.{none, records-fault};
+ghost use Rattle.job.specs.Reading.{none, records-fault, calls};
 use call::Figures;
 use call::JobFault;
 
@@ -21,6 +21,7 @@ pub struct Job<'a> {
     next: u16,
     ghost few: { records ≤ 4608 },
     ghost long: { 13 * records ≤ length (bytes .now) - 16 },
+    ghost counted: { length (calls records (drop 16 (bytes .now))) ≡ records },
     ghost lawful: { none (records-fault records 16 (drop 16 (bytes .now))) ≡ true },
     ghost within: { next ≤ records },
 }

@@ -23,7 +23,7 @@ newline = 10 ∷ []
 -- the line of a job's figures and the number of its records
 abbrev pub figures-line : Five → ℕ → List ℕ
 figures-line f records =
-    codes "cores "
+    (codes "cores "
     ++ (decimal (f .cores)
     ++ (codes " slots "
     ++ (decimal (f .slots)
@@ -31,7 +31,8 @@ figures-line f records =
     ++ (decimal (f .words)
     ++ (codes " strip "
     ++ (decimal (f .strip)
-    ++ (codes " allowance " ++ (decimal (f .allowance) ++ (codes " records " ++ (decimal records ++ newline)))))))))))
+    ++ (codes " allowance " ++ (decimal (f .allowance) ++ (codes " records " ++ decimal records)))))))))))
+    ++ newline
 
 -- the modes of so many strips under a plan, the first strip first: four bits each
 abbrev pub modes : ℕ → ℕ → List ℕ

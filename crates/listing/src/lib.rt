@@ -6,7 +6,6 @@ ghost use lib.ListN.{length};
 ghost use Rattle.std.specs.Of.String.{string-bytes};
 ghost use Rattle.std.specs.Vec.{made};
 ghost use Rattle.job.specs.Jobs.{rest};
-ghost use Rattle.listing.specs.Laws.{Lines-apart};
 ghost use Rattle.listing.specs.Lines.{call-lines, job-text};
 use job::Job;
 use lines::call_line;
@@ -31,11 +30,9 @@ fn with_calls(heap: Global, mut text: String, mut job: Job<'_>) -> Result<String
     Ok(text)
 }
 
-/// The text of a job: the line of its figures and a line for each call, or the one line of its first fault. Different calls,
-/// and calls at different numbers, never have the same line.
+/// The text of a job: the line of its figures and a line for each call, or the one line of its first fault.
 pub fn job_text(heap: Global, bytes: &[u8]) -> Result<String, AllocError>
-    ensures value { λ r. ⌜ made r (λ s. string-bytes s ≡ job-text (now (bytes .entry))) ⌝ }
-    ensures apart { λ _. ⌜ Lines-apart ⌝ }
+    ensures { λ r. ⌜ made r (λ s. string-bytes s ≡ job-text (now (bytes .entry))) ⌝ }
 {
     let job = Job::open(bytes);
     match job.figures() {

@@ -3,39 +3,65 @@ ghost use mathlib.Core.Path.{_≡_};
 ghost use Prim.Native.Nat.{_<_};
 ghost use Rattle.std.specs.Of.String.{string-bytes};
 ghost use Rattle.std.specs.Vec.{made};
-ghost use Rattle.call.specs.Figures.{figures as numbers-of};
+ghost use Rattle.call.specs.Figures.{five, figures as numbers-of};
 ghost use Rattle.call.specs.Told.{fault-told};
+ghost use Rattle.listing.specs.Laws.{Lines-apart};
 ghost use Rattle.listing.specs.Lines.{figures-line, strip-text, plan-text, call-line, told-line};
 use call::Call;
+use call::FaultTold;
 use call::Figures;
 use call::JobFault;
 use std::alloc::AllocError;
 use std::alloc::Global;
 
-/// The line of a job's figures and the number of its records.
-pub fn figures_line(heap: Global, figures: &Figures, records: u16) -> Result<String, AllocError>
-    ensures { λ r. ⌜ made r (λ s. string-bytes s ≡ figures-line (numbers-of (now (figures .entry))) records) ⌝ }
+// The line of figures by their numbers.
+fn numbers_line(
+    heap: Global,
+    cores: u8,
+    slots: u8,
+    words: u16,
+    strip: u16,
+    allowance: u32,
+    records: u16,
+) -> Result<String, AllocError>
+    ensures { λ r. ⌜ made r (λ s. string-bytes s ≡ figures-line (five cores slots words strip allowance) records) ⌝ }
 {
-    let cores = figures.cores();
-    let slots = figures.slots();
-    let words = figures.words();
-    let strip = figures.strip();
-    let allowance = figures.allowance();
     format!(
         heap,
         "cores {cores} slots {slots} words {words} strip {strip} allowance {allowance} records {records}\n"
     )
 }
 
-/// The line of a job's fault: its number, its place and the number inside.
-pub fn fault_line(heap: Global, fault: JobFault) -> Result<String, AllocError>
-    ensures { λ r. ⌜ made r (λ s. string-bytes s ≡ told-line (fault-told fault)) ⌝ }
+/// The line of a job's figures and the number of its records.
+pub fn figures_line(heap: Global, figures: &Figures, records: u16) -> Result<String, AllocError>
+    ensures { λ r. ⌜ made r (λ s. string-bytes s ≡ figures-line (numbers-of (now (figures .entry))) records) ⌝ }
 {
-    let told = fault.told();
+    numbers_line(
+        heap,
+        figures.cores(),
+        figures.slots(),
+        figures.words(),
+        figures.strip(),
+        figures.allowance(),
+        records,
+    )
+}
+
+// The line of a fault by what it tells.
+fn told_line(heap: Global, told: FaultTold) -> Result<String, AllocError>
+    ensures { λ r. ⌜ made r (λ s. string-bytes s ≡ told-line told) ⌝ }
+{
     let number = told.number;
     let place = told.place;
     let inner = told.inner;
     format!(heap, "refused {number} {place} {inner}\n")
+}
+
+/// The line of a job's fault: its number, its place and the number inside.
+pub fn fault_line(heap: Global, fault: JobFault) -> Result<String, AllocError>
+    ensures { λ r. ⌜ made r (λ s. string-bytes s ≡ told-line (fault-told fault)) ⌝ }
+{
+    told_line(heap, fault.told())
 }
 
 // A strip with its mode in words, empty where it is read-only.
@@ -70,8 +96,8 @@ fn plan_text(heap: Global, plan: u64) -> Result<String, AllocError>
     Ok(text)
 }
 
-/// The line of a call, with its number among the job's calls.
-pub fn call_line(heap: Global, number: u16, call: Call) -> Result<String, AllocError>
+// The line of a call.
+fn line_of(heap: Global, number: u16, call: Call) -> Result<String, AllocError>
     ensures { λ r. ⌜ made r (λ s. string-bytes s ≡ call-line number call) ⌝ }
 {
     match call {
@@ -92,4 +118,13 @@ pub fn call_line(heap: Global, number: u16, call: Call) -> Result<String, AllocE
         }
         Call::Settle => format!(heap, "{number} conductor settle\n"),
     }
+}
+
+/// The line of a call, with its number among the job's calls. Different calls, and calls at different numbers, never have the
+/// same line.
+pub fn call_line(heap: Global, number: u16, call: Call) -> Result<String, AllocError>
+    ensures value { λ r. ⌜ made r (λ s. string-bytes s ≡ call-line number call) ⌝ }
+    ensures apart { λ _. ⌜ Lines-apart ⌝ }
+{
+    line_of(heap, number, call)
 }

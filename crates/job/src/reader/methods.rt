@@ -6,7 +6,7 @@ ghost use Rattle.std.specs.Results.{Cases};
 ghost use Rattle.std.specs.declared.option.Option.the-variants.{Some, None};
 ghost use Rattle.std.specs.declared.result.Result.the-variants.{Ok};
 ghost use Rattle.call.specs.Figures.{figures, checked};
-ghost use Rattle.job.specs.Reading.{figures-fault, count-fault, records-fault, job-figures, job-records, job-fault, reading};
+ghost use Rattle.job.specs.Reading.{figures-fault, count-fault, records-fault, job-figures, job-records, job-fault, reading, calls};
 ghost use Rattle.job.specs.Jobs.{numbers, verdict-of, calls-of, rest, first, figures-read, calls-read, Encoded};
 ghost use Rattle.job.specs.Laws.{Reads-back, Encodes-again};
 use super::Job;
@@ -80,7 +80,8 @@ fn check_records(bytes: &[u8], records: u16) -> Result<(), JobFault>
 
 // Checks a whole job: its figures and the number of its records, or its first fault.
 fn check(bytes: &[u8]) -> Result<(Figures, u16), JobFault>
-    ensures { λ r. ⌜ Cases r (λ p. (job-fault (now (bytes .entry)) ≡ None) × (figures (p .0) ≡ job-figures (now (bytes .entry))) × (p .1 ≡ job-records (now (bytes .entry))) × (p .1 ≤ 4608) × (length (now (bytes .entry)) ≡ 16 + 13 * p .1)) (λ e. job-fault (now (bytes .entry)) ≡ Some e) ⌝ }
+    ensures value { λ r. ⌜ Cases r (λ p. (job-fault (now (bytes .entry)) ≡ None) × (figures (p .0) ≡ job-figures (now (bytes .entry))) × (p .1 ≡ job-records (now (bytes .entry))) × (p .1 ≤ 4608) × (length (now (bytes .entry)) ≡ 16 + 13 * p .1)) (λ e. job-fault (now (bytes .entry)) ≡ Some e) ⌝ }
+    ensures calls { λ r. ⌜ Cases r (λ p. length (calls (p .1) (drop 16 (now (bytes .entry)))) ≡ p .1) (λ _. Unit {0}) ⌝ }
 {
     let figures = figures_of(bytes)?;
     let records = count_of(bytes)?;
@@ -88,8 +89,31 @@ fn check(bytes: &[u8]) -> Result<(Figures, u16), JobFault>
     Ok((figures, records))
 }
 
+// A job over its bytes, with the verdict on them.
+fn judged<'a>(bytes: &'a [u8]) -> Job<'a>
+    ensures value { λ r. ⌜ verdict-of r ≡ figures-read (reading (now (bytes .entry))) ⌝ }
+    ensures calls { λ r. ⌜ calls-of r ≡ calls-read (reading (now (bytes .entry))) ⌝ }
+    ensures start { λ r. ⌜ rest r ≡ calls-of r ⌝ }
+{
+    match check(bytes) {
+        Ok(found) => Job {
+            bytes,
+            verdict: Ok(found.0),
+            records: found.1,
+            next: 0,
+        },
+        Err(fault) => Job {
+            bytes,
+            verdict: Err(fault),
+            records: 0,
+            next: 0,
+        },
+    }
+}
+
 impl<'a> Job<'a> {
-    /// Opens a job over its bytes, and checks the whole of it.
+    /// Opens a job over its bytes, and checks the whole of it. A job that is accepted is the encoding of the figures and the
+    /// calls that are read from it; and what is encoded is accepted and read back.
     pub fn open(bytes: &'a [u8]) -> Job<'a>
         ensures value { λ r. ⌜ verdict-of r ≡ figures-read (reading (now (bytes .entry))) ⌝ }
         ensures calls { λ r. ⌜ calls-of r ≡ calls-read (reading (now (bytes .entry))) ⌝ }
@@ -97,20 +121,7 @@ impl<'a> Job<'a> {
         ensures encoded { λ r. ⌜ Encoded (verdict-of r) (calls-of r) (now (bytes .entry)) ⌝ }
         ensures law { λ _. ⌜ Reads-back × Encodes-again ⌝ }
     {
-        match check(bytes) {
-            Ok(found) => Job {
-                bytes,
-                verdict: Ok(found.0),
-                records: found.1,
-                next: 0,
-            },
-            Err(fault) => Job {
-                bytes,
-                verdict: Err(fault),
-                records: 0,
-                next: 0,
-            },
-        }
+        judged(bytes)
     }
 
     /// The job's figures; of a job that is refused its first fault.
@@ -127,18 +138,29 @@ impl<'a> Job<'a> {
         self.records
     }
 
+    // The call at the cursor, and what is left past it.
+    fn call_here(&self) -> Option<Call>
+        ensures value { λ r. ⌜ r ≡ first (rest (now (self .entry))) ⌝ }
+        ensures past { λ _. ⌜ drop (now (self .entry) .next + 1) (calls-of (now (self .entry))) ≡ drop 1 (rest (now (self .entry))) ⌝ }
+        ensures end { λ _. ⌜ (now (self .entry) .next ≡ now (self .entry) .records → rest (now (self .entry)) ≡ drop 1 (rest (now (self .entry)))) ⌝ }
+    {
+        if self.next == self.records {
+            return None;
+        }
+        let start = 16 + 13 * self.next as usize;
+        spelled_call(&self.bytes[start..start + 13])
+    }
+
     /// Reads the next call; none where all were read.
     pub fn next_call(&mut self) -> Option<Call>
         ensures value { λ r. ⌜ r ≡ first (rest (now (self .entry))) ⌝ }
         ensures after { λ _. ⌜ rest (now (self .exit)) ≡ drop 1 (rest (now (self .entry))) ⌝ }
         ensures same { λ _. ⌜ (verdict-of (now (self .exit)) ≡ verdict-of (now (self .entry))) × (calls-of (now (self .exit)) ≡ calls-of (now (self .entry))) ⌝ }
     {
-        if self.next == self.records {
-            return None;
+        let call = self.call_here();
+        if self.next < self.records {
+            self.next += 1;
         }
-        let start = 16 + 13 * self.next as usize;
-        let call = spelled_call(&self.bytes[start..start + 13]);
-        self.next += 1;
         call
     }
 }

@@ -1,4 +1,3 @@
-use borrow.Author.Needs.{needs}
 use mathlib.Core.List.{_++_}
 use mathlib.Core.Path.{_≡_, sym, _∙_}
 use Rattle.std.proofs.shelf.Results.{made-weaker}
@@ -7,7 +6,6 @@ use Rattle.call.specs.Figures.{figures}
 use Rattle.job.specs.Jobs.{rest, calls-of}
 use Rattle.job.specs.Reading.{reading}
 use Rattle.listing.specs.Lines.{figures-line, call-lines, job-text}
-use Rattle.listing.proofs.Apart.{lines-apart}
 use Rattle.listing.proofs.Texts.{text-so}
 use Rattle.listing.proofs.job_text.Needs as need
 
@@ -21,10 +19,4 @@ returns-in-Continue-text c =
     (λ i. head i ++ call-lines 1 (c .open-job .ensures .start i))
     ∙ (λ i. figures-line (figures (c .in-Ok .figures)) (count i) ++ call-lines 1 (calls-of job))
     ∙ text-so (reading bytes) (figures (c .in-Ok .figures)) (calls-of job) (c .in-Ok .ensures tt ∙ c .open-job .ensures .value) (c .open-job .ensures .calls) in
-    record { value = made-weaker (c .with-calls .result) _ _ (λ s e. e ∙ whole) (c .with-calls .ensures); apart = lines-apart }
-
-pub returns-in-Break-text : need.returns-in-Break-text
-returns-in-Break-text c = record { value = search needs; apart = lines-apart }
-
-pub returns-in-Err : need.returns-in-Err
-returns-in-Err c = record { value = search needs; apart = lines-apart }
+    made-weaker (c .with-calls .result) _ _ (λ s e. e ∙ whole) (c .with-calls .ensures)

@@ -1,4 +1,3 @@
-use mathlib.Core.List.{append-assoc}
 use mathlib.Core.Path.{_≡_, subst}
 use Rattle.std.specs.Of.String.{string-bytes}
 use Rattle.std.specs.Vec.{made}
@@ -8,6 +7,6 @@ use Rattle.listing.proofs.lines.figures_line.Needs as need
 
 pub returns : need.returns
 returns c =
-    let numbers : five (c .cores-cores .result) (c .slots-slots .result) (c .words-words .result) (c .strip-strip .result) (c .allowance-allowance .result) ≡ figures (c .args .figures .now) =
-    λ i. five (c .cores-cores .ensures i) (c .slots-slots .ensures i) (c .words-words .ensures i) (c .strip-strip .ensures i) (c .allowance-allowance .ensures i) in
-    subst (λ (f : Five). made (c .format .result) (λ s. string-bytes s ≡ figures-line f (c .args .records))) numbers (simp append-assoc at (c .format .ensures .made))
+    let numbers : five (c .cores .result) (c .slots .result) (c .words .result) (c .strip .result) (c .allowance .result) ≡ figures (c .args .figures .now) =
+    λ i. five (c .cores .ensures i) (c .slots .ensures i) (c .words .ensures i) (c .strip .ensures i) (c .allowance .ensures i) in
+    subst (λ (f : Five). made (c .numbers-line .result) (λ s. string-bytes s ≡ figures-line f (c .args .records))) numbers (c .numbers-line .ensures)
