@@ -9,6 +9,7 @@ use native.Mathlib.Omega.{arith}
 use lib.ListN.{length, getD, take, drop}
 use Rattle.std.proofs.shelf.Elements.{all-take, all-drop}
 use Rattle.std.proofs.shelf.Lists.{take-append-drop, length-take-le, length-drop, nil-from-length}
+use Rattle.std.specs.Results.{Cases}
 use Rattle.std.specs.Vec.{listOf}
 use Rattle.std.specs.declared.option.Option.{Option}
 use Rattle.std.specs.declared.option.Option.the-variants.{Some, None}
@@ -16,15 +17,15 @@ use Rattle.std.specs.declared.result.Result.{Result}
 use Rattle.std.specs.declared.result.Result.the-variants.{Ok, Err}
 use Rattle.std.specs.shelf.Digits.{number, Under}
 use Rattle.std.specs.shelf.Lists.{All, joined}
-use Rattle.call.specs.Figures.{Five, five, checked}
+use Rattle.call.specs.Figures.{Five, five, figures, checked}
+use Rattle.call.specs.declared.figures.Figures.{Figures}
 use Rattle.call.specs.declared.call.Call.{Call}
 use Rattle.call.specs.declared.fault.JobFault.{JobFault}
 use Rattle.call.specs.declared.fault.JobFault.the-variants.{Record}
 use Rattle.job.specs.Bytes.{big-endian, part, field}
 use Rattle.job.specs.Encoding.{record-bytes, contents, encode, Lawful-call}
 use Rattle.job.specs.Laws.{Reads-back, Encodes-again}
-use Rattle.job.specs.Jobs.{figures-read, calls-read, Encoded}
-use Rattle.job.specs.Reading.{Says, reading, spelled, unless-spelled, records-fault, calls, none, job-figures, job-records, job-calls}
+use Rattle.job.specs.Reading.{says, said-unless, job-fault, reading, spelled, unless-spelled, records-fault, calls, none, job-figures, job-records, job-calls}
 use Rattle.job.proofs.BigEndian.{number-back, field-back}
 use Rattle.job.proofs.Records.{length-calls}
 use Rattle.job.proofs.Spelling.{record-back, spelled-back, part-take}
@@ -103,17 +104,13 @@ encodes-again bytes f cs under h =
     ∙ ap (λ (n : ℕ). contents (job-figures bytes) n ++ joined record-bytes (job-calls bytes)) (sym count)
     ∙ (λ i. encode (lays .figures-are i) (lays .calls-are i))
 
--- the same of a job that was opened, by its verdict and its calls
-pub encoded-so : (bytes : List ℕ) (v : Result Five JobFault) (cs : List Call) → Under 256 bytes → v ≡ figures-read (reading bytes) → cs ≡ calls-read (reading bytes) → Encoded v cs bytes
-encoded-so bytes v cs under hv hc = go (reading bytes) refl
-  where
-    go : (r : Result Says JobFault) → reading bytes ≡ r → Encoded v cs bytes
-    go (Ok s) e =
-        let figures : Ok (s .figures) ≡ v = sym (hv ∙ ap figures-read e) in
-        let calls-are : s .calls ≡ cs = sym (hc ∙ ap calls-read e) in
-        let same : bytes ≡ encode (s .figures) cs =
-        encodes-again bytes (s .figures) (s .calls) under e ∙ ap (encode (s .figures)) calls-are in
-        subst (λ (x : Result Five JobFault). Encoded x cs bytes) figures same
-    go (Err d) e =
-        let fault : Err d ≡ v = sym (hv ∙ ap figures-read e) in
-        subst (λ (x : Result Five JobFault). Encoded x cs bytes) fault tt
+-- the same of what a check finds in a job: figures with these numbers, and so many records
+pub encoded-found : (bytes : List ℕ) (r : Result (Figures × ℕ) JobFault) → Under 256 bytes → Cases r (λ p. (job-fault bytes ≡ None) × (figures (p .0) ≡ job-figures bytes) × (p .1 ≡ job-records bytes) × (p .1 ≤ 4608) × (length bytes ≡ 16 + 13 * p .1)) (λ e. job-fault bytes ≡ Some e) → Cases r (λ p. bytes ≡ encode (figures (p .0)) (calls (p .1) (drop 16 bytes))) (λ _. Unit {0})
+encoded-found bytes (Ok p) under h =
+    let read : reading bytes ≡ Ok (says (job-figures bytes) (job-calls bytes)) =
+    ap (λ (o : Option JobFault). said-unless o (says (job-figures bytes) (job-calls bytes))) (h .0) in
+    let numbers : job-figures bytes ≡ figures (p .0) = sym (h .1) in
+    let count : job-records bytes ≡ p .1 = sym (h .2) in
+    encodes-again bytes (job-figures bytes) (job-calls bytes) under read
+    ∙ (λ i. encode (numbers i) (calls (count i) (drop 16 bytes)))
+encoded-found bytes (Err e) under h = tt

@@ -1,5 +1,4 @@
--- Going through the calls of a job: the first of the calls that are left has the next line. And the text of a job that is
--- accepted, by its figures and its calls. Assumes nothing.
+-- Going through the calls of a job: the first of the calls that are left has the next line. Assumes nothing.
 use mathlib.Core.List.{List, [], _∷_, _++_, append-assoc}
 use mathlib.Core.Path.{_≡_, refl, sym, ap, _∙_}
 use Prim.Native.Nat.{ℕ, suc, _+_}
@@ -7,14 +6,9 @@ use native.Mathlib.Omega.{arith}
 use lib.ListN.{length, drop}
 use Rattle.std.specs.declared.option.Option.{Option}
 use Rattle.std.specs.declared.option.Option.the-variants.{Some, None}
-use Rattle.std.specs.declared.result.Result.{Result}
-use Rattle.std.specs.declared.result.Result.the-variants.{Ok, Err}
-use Rattle.call.specs.Figures.{Five}
 use Rattle.call.specs.declared.call.Call.{Call}
-use Rattle.call.specs.declared.fault.JobFault.{JobFault}
-use Rattle.job.specs.Jobs.{first, figures-read, calls-read}
-use Rattle.job.specs.Reading.{Says}
-use Rattle.listing.specs.Lines.{figures-line, call-line, call-lines, text-of}
+use Rattle.job.specs.Jobs.{first}
+use Rattle.listing.specs.Lines.{call-line, call-lines}
 
 -- calls with a first one are that call and those past it
 pub first-is : (cs : List Call) (c : Call) → Some c ≡ first cs → cs ≡ c ∷ drop 1 cs
@@ -37,10 +31,3 @@ line-step before after line number cs left c is past longer said =
 -- and so one fewer are left
 pub fewer : (cs left : List Call) (c : Call) → Some c ≡ first cs → left ≡ drop 1 cs → length cs ≡ suc (length left)
 fewer cs left c is past = ap length (first-is cs c is) ∙ ap (λ (ds : List Call). suc (length ds)) (sym past)
-
--- the text of a job that is accepted
-pub text-so : (r : Result Says JobFault) (f : Five) (cs : List Call) → Ok f ≡ figures-read r → cs ≡ calls-read r → figures-line f (length cs) ++ call-lines 1 cs ≡ text-of r
-text-so (Ok s) f cs hf hc =
-    let figures : f ≡ s .figures = cc in
-    λ i. figures-line (figures i) (length (hc i)) ++ call-lines 1 (hc i)
-text-so (Err e) f cs hf hc = let z : _≡_ {A = ℕ} 0 1 = cc in let no-way : ⊥ = omega arith in absurd no-way

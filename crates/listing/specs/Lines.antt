@@ -14,7 +14,8 @@ use Rattle.call.specs.declared.call.Call.{Call}
 use Rattle.call.specs.declared.call.Call.the-variants as call
 use Rattle.call.specs.declared.fault.FaultTold.{FaultTold}
 use Rattle.call.specs.declared.fault.JobFault.{JobFault}
-use Rattle.job.specs.Reading.{Says, reading}
+use Rattle.job.specs.Jobs.{figures-read, calls-read}
+use Rattle.job.specs.Reading.{reading}
 
 -- the end of a line
 abbrev pub newline : List ℕ
@@ -84,11 +85,11 @@ abbrev pub told-line : FaultTold → List ℕ
 told-line t =
     codes "refused " ++ (decimal (t .number) ++ (codes " " ++ (decimal (t .place) ++ (codes " " ++ (decimal (t .inner) ++ newline)))))
 
--- the text of a job that was read
-abbrev pub text-of : Result Says JobFault → List ℕ
-text-of (Ok s) = figures-line (s .figures) (length (s .calls)) ++ call-lines 1 (s .calls)
-text-of (Err e) = told-line (fault-told e)
+-- the text of a job by its verdict and its calls
+abbrev pub text-of : Result Five JobFault → List Call → List ℕ
+text-of (Ok f) cs = figures-line f (length cs) ++ call-lines 1 cs
+text-of (Err e) cs = told-line (fault-told e)
 
 -- the text of a job
 abbrev pub job-text : List ℕ → List ℕ
-job-text bytes = text-of (reading bytes)
+job-text bytes = text-of (figures-read (reading bytes)) (calls-read (reading bytes))

@@ -5,16 +5,18 @@ ghost use Prim.Native.Nat.{_<_};
 ghost use lib.ListN.{length};
 ghost use Rattle.std.specs.Of.String.{string-bytes};
 ghost use Rattle.std.specs.Vec.{made};
-ghost use Rattle.job.specs.Jobs.{rest};
-ghost use Rattle.listing.specs.Lines.{call-lines, job-text};
+ghost use Rattle.job.specs.Jobs.{rest, calls-of, verdict-of};
+ghost use Rattle.listing.specs.Laws.{Lines-apart};
+ghost use Rattle.listing.specs.Lines.{call-lines, text-of, job-text};
 use job::Job;
 use lines::call_line;
-use lines::fault_line;
 use lines::figures_line;
 use std::alloc::AllocError;
 use std::alloc::Global;
 
-pub mod lines;
+mod lines;
+
+pub use lines::fault_line;
 
 // A text with the lines of the calls that a job has still to give, numbered from 1.
 fn with_calls(heap: Global, mut text: String, mut job: Job<'_>) -> Result<String, AllocError>
@@ -30,11 +32,12 @@ fn with_calls(heap: Global, mut text: String, mut job: Job<'_>) -> Result<String
     Ok(text)
 }
 
-/// The text of a job: the line of its figures and a line for each call, or the one line of its first fault.
-pub fn job_text(heap: Global, bytes: &[u8]) -> Result<String, AllocError>
-    ensures { λ r. ⌜ made r (λ s. string-bytes s ≡ job-text (now (bytes .entry))) ⌝ }
+// The text of a job of which no call was read yet.
+fn text_of(heap: Global, job: Job<'_>) -> Result<String, AllocError>
+    requires { ⌜ rest job ≡ calls-of job ⌝ }
+    ensures value { λ r. ⌜ made r (λ s. string-bytes s ≡ text-of (verdict-of (job .entry)) (calls-of (job .entry))) ⌝ }
+    ensures apart { λ _. ⌜ Lines-apart ⌝ }
 {
-    let job = Job::open(bytes);
     match job.figures() {
         Ok(figures) => {
             let text = figures_line(heap, &figures, job.records())?;
@@ -42,4 +45,13 @@ pub fn job_text(heap: Global, bytes: &[u8]) -> Result<String, AllocError>
         }
         Err(fault) => fault_line(heap, fault),
     }
+}
+
+/// The text of a job: the line of its figures and a line for each call, or the one line of its first fault. Different calls,
+/// and calls at different numbers, never have the same line.
+pub fn job_text(heap: Global, bytes: &[u8]) -> Result<String, AllocError>
+    ensures value { λ r. ⌜ made r (λ s. string-bytes s ≡ job-text (now (bytes .entry))) ⌝ }
+    ensures apart { λ _. ⌜ Lines-apart ⌝ }
+{
+    text_of(heap, Job::open(bytes))
 }

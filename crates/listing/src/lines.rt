@@ -5,7 +5,6 @@ ghost use Rattle.std.specs.Of.String.{string-bytes};
 ghost use Rattle.std.specs.Vec.{made};
 ghost use Rattle.call.specs.Figures.{five, figures as numbers-of};
 ghost use Rattle.call.specs.Told.{fault-told};
-ghost use Rattle.listing.specs.Laws.{Lines-apart};
 ghost use Rattle.listing.specs.Lines.{figures-line, strip-text, plan-text, call-line, told-line};
 use call::Call;
 use call::FaultTold;
@@ -32,8 +31,12 @@ fn numbers_line(
     )
 }
 
-/// The line of a job's figures and the number of its records.
-pub fn figures_line(heap: Global, figures: &Figures, records: u16) -> Result<String, AllocError>
+// The line of a job's figures and the number of its records.
+pub(crate) fn figures_line(
+    heap: Global,
+    figures: &Figures,
+    records: u16,
+) -> Result<String, AllocError>
     ensures { λ r. ⌜ made r (λ s. string-bytes s ≡ figures-line (numbers-of (now (figures .entry))) records) ⌝ }
 {
     numbers_line(
@@ -96,8 +99,8 @@ fn plan_text(heap: Global, plan: u64) -> Result<String, AllocError>
     Ok(text)
 }
 
-// The line of a call.
-fn line_of(heap: Global, number: u16, call: Call) -> Result<String, AllocError>
+// The line of a call, with its number among the job's calls.
+pub(crate) fn call_line(heap: Global, number: u16, call: Call) -> Result<String, AllocError>
     ensures { λ r. ⌜ made r (λ s. string-bytes s ≡ call-line number call) ⌝ }
 {
     match call {
@@ -118,13 +121,4 @@ fn line_of(heap: Global, number: u16, call: Call) -> Result<String, AllocError>
         }
         Call::Settle => format!(heap, "{number} conductor settle\n"),
     }
-}
-
-/// The line of a call, with its number among the job's calls. Different calls, and calls at different numbers, never have the
-/// same line.
-pub fn call_line(heap: Global, number: u16, call: Call) -> Result<String, AllocError>
-    ensures value { λ r. ⌜ made r (λ s. string-bytes s ≡ call-line number call) ⌝ }
-    ensures apart { λ _. ⌜ Lines-apart ⌝ }
-{
-    line_of(heap, number, call)
 }

@@ -7,6 +7,7 @@ ghost use Rattle.std.specs.declared.option.Option.the-variants.{Some, None};
 ghost use Rattle.std.specs.declared.result.Result.the-variants.{Ok};
 ghost use Rattle.call.specs.Figures.{figures, checked};
 ghost use Rattle.job.specs.Reading.{figures-fault, count-fault, records-fault, job-figures, job-records, job-fault, reading, calls};
+ghost use Rattle.job.specs.Encoding.{encode};
 ghost use Rattle.job.specs.Jobs.{numbers, verdict-of, calls-of, rest, first, figures-read, calls-read, Encoded};
 ghost use Rattle.job.specs.Laws.{Reads-back, Encodes-again};
 use super::Job;
@@ -78,10 +79,10 @@ fn check_records(bytes: &[u8], records: u16) -> Result<(), JobFault>
     Ok(())
 }
 
-// Checks a whole job: its figures and the number of its records, or its first fault.
-fn check(bytes: &[u8]) -> Result<(Figures, u16), JobFault>
+// The figures of a job and the number of its records, or its first fault.
+fn first_fault(bytes: &[u8]) -> Result<(Figures, u16), JobFault>
     ensures value { λ r. ⌜ Cases r (λ p. (job-fault (now (bytes .entry)) ≡ None) × (figures (p .0) ≡ job-figures (now (bytes .entry))) × (p .1 ≡ job-records (now (bytes .entry))) × (p .1 ≤ 4608) × (length (now (bytes .entry)) ≡ 16 + 13 * p .1)) (λ e. job-fault (now (bytes .entry)) ≡ Some e) ⌝ }
-    ensures calls { λ r. ⌜ Cases r (λ p. length (calls (p .1) (drop 16 (now (bytes .entry)))) ≡ p .1) (λ _. Unit {0}) ⌝ }
+    ensures len { λ r. ⌜ Cases r (λ p. length (calls (p .1) (drop 16 (now (bytes .entry)))) ≡ p .1) (λ _. Unit {0}) ⌝ }
 {
     let figures = figures_of(bytes)?;
     let records = count_of(bytes)?;
@@ -89,26 +90,14 @@ fn check(bytes: &[u8]) -> Result<(Figures, u16), JobFault>
     Ok((figures, records))
 }
 
-// A job over its bytes, with the verdict on them.
-fn judged<'a>(bytes: &'a [u8]) -> Job<'a>
-    ensures value { λ r. ⌜ verdict-of r ≡ figures-read (reading (now (bytes .entry))) ⌝ }
-    ensures calls { λ r. ⌜ calls-of r ≡ calls-read (reading (now (bytes .entry))) ⌝ }
-    ensures start { λ r. ⌜ rest r ≡ calls-of r ⌝ }
+// Checks a whole job. What it finds in a job that is accepted encodes to the job again.
+fn check(bytes: &[u8]) -> Result<(Figures, u16), JobFault>
+    ensures value { λ r. ⌜ Cases r (λ p. (job-fault (now (bytes .entry)) ≡ None) × (figures (p .0) ≡ job-figures (now (bytes .entry))) × (p .1 ≡ job-records (now (bytes .entry))) × (p .1 ≤ 4608) × (length (now (bytes .entry)) ≡ 16 + 13 * p .1)) (λ e. job-fault (now (bytes .entry)) ≡ Some e) ⌝ }
+    ensures len { λ r. ⌜ Cases r (λ p. length (calls (p .1) (drop 16 (now (bytes .entry)))) ≡ p .1) (λ _. Unit {0}) ⌝ }
+    ensures encoded { λ r. ⌜ Cases r (λ p. now (bytes .entry) ≡ encode (figures (p .0)) (calls (p .1) (drop 16 (now (bytes .entry))))) (λ _. Unit {0}) ⌝ }
+    ensures law { λ _. ⌜ Reads-back × Encodes-again ⌝ }
 {
-    match check(bytes) {
-        Ok(found) => Job {
-            bytes,
-            verdict: Ok(found.0),
-            records: found.1,
-            next: 0,
-        },
-        Err(fault) => Job {
-            bytes,
-            verdict: Err(fault),
-            records: 0,
-            next: 0,
-        },
-    }
+    first_fault(bytes)
 }
 
 impl<'a> Job<'a> {
@@ -121,7 +110,20 @@ impl<'a> Job<'a> {
         ensures encoded { λ r. ⌜ Encoded (verdict-of r) (calls-of r) (now (bytes .entry)) ⌝ }
         ensures law { λ _. ⌜ Reads-back × Encodes-again ⌝ }
     {
-        judged(bytes)
+        match check(bytes) {
+            Ok(found) => Job {
+                bytes,
+                verdict: Ok(found.0),
+                records: found.1,
+                next: 0,
+            },
+            Err(fault) => Job {
+                bytes,
+                verdict: Err(fault),
+                records: 0,
+                next: 0,
+            },
+        }
     }
 
     /// The job's figures; of a job that is refused its first fault.

@@ -27,7 +27,7 @@ loop-call-again c =
     let less = fewer (rest (c .loop-call .job)) (rest (c .next-call .last .self)) (c .in-Some .call) (c .in-Some .ensures tt .value) (c .next-call .ensures .after) in
     let few = c .loop-call .inv .1 in
     let longer = pushed (c .as-str .result .now) refl (c .in-Continue-push-str .was tt) (c .push-str .ensures .bytes) in (
-      line-step (string-bytes (c .loop-call .text)) (string-bytes (c .push-str .last .self)) (c .as-str .result .now) (c .loop-call .number) (rest (c .loop-call .job)) (rest (c .next-call .last .self)) (c .in-Some .call) (c .in-Some .ensures tt .value) (c .next-call .ensures .after) longer (c .as-str .ensures .value ∙ c .in-Continue-line .ensures tt .value)
+      line-step (string-bytes (c .loop-call .text)) (string-bytes (c .push-str .last .self)) (c .as-str .result .now) (c .loop-call .number) (rest (c .loop-call .job)) (rest (c .next-call .last .self)) (c .in-Some .call) (c .in-Some .ensures tt .value) (c .next-call .ensures .after) longer (c .as-str .ensures .value ∙ c .in-Continue-line .ensures tt)
           ∙ c .loop-call .inv .0,
       omega arith,
     )

@@ -1,14 +1,16 @@
-use mathlib.Core.Path.{ap}
-use borrow.Author.Needs.{needs}
-use lib.ListN.{drop}
-use Rattle.job.specs.Reading.{none}
-use Rattle.job.proofs.Records.{length-calls}
+use Prim.Native.Nat.{_<_}
+use Rattle.std.proofs.shelf.Elements.{all-from-getD}
+use Rattle.job.proofs.RoundTrip.{reads-back, encodes-again, encoded-found}
 use Rattle.job.proofs.reader.methods.check.Needs as need
 
 pub returns : need.returns
 returns c =
-    let n = c .in-Continue-records .records in
+    let bytes = c .args .bytes .now in
+    let said = c .first-fault .ensures in
+    let under = all-from-getD (λ b. b < 256) bytes 0 (λ i h. c .typed .bytes i .fits) in
     record {
-      value = search needs;
-      calls = length-calls n 16 (drop 16 (c .args .bytes .now)) (ap none (c .in-Continue-check-records .ensures tt));
+      value = said .value;
+      len = said .len;
+      encoded = encoded-found bytes (c .first-fault .result) under (said .value);
+      law = (reads-back, encodes-again);
     }
