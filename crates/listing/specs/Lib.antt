@@ -1,0 +1,3 @@
+-- The definitions that the contracts of a job's text cite.
+pub mod Lines
+pub mod Laws
