@@ -1,6 +1,6 @@
 //! What can be wrong with figures and with a job.
 ghost use mathlib.Core.Path.{_≡_};
-ghost use Rattle.call.specs.Told.{figure-number, figure-place, fault-told};
+ghost use Rattle.call.specs.Told.{figure-number, figure-place, fault, fault-told};
 ghost use Rattle.call.specs.declared.fault.JobFault.the-variants.{Figures};
 
 /// The first of the five figures that breaks its row.
@@ -44,6 +44,17 @@ pub struct FaultTold {
     pub inner: u8,
 }
 
+// The three numbers that a fault tells.
+fn at(number: u8, place: u16, inner: u8) -> FaultTold
+    ensures { λ r. ⌜ r ≡ fault number place inner ⌝ }
+{
+    FaultTold {
+        number,
+        place,
+        inner,
+    }
+}
+
 impl FigureFault {
     /// The number of the broken row.
     pub fn number(self) -> u8
@@ -78,36 +89,12 @@ impl JobFault {
         ensures { λ r. ⌜ r ≡ fault-told self ⌝ }
     {
         match self {
-            JobFault::Short(length) => FaultTold {
-                number: 19,
-                place: length as u16,
-                inner: 0,
-            },
-            JobFault::Figures(row) => FaultTold {
-                number: 20,
-                place: row.place(),
-                inner: row.number(),
-            },
-            JobFault::Reserved => FaultTold {
-                number: 21,
-                place: 6,
-                inner: 0,
-            },
-            JobFault::Length => FaultTold {
-                number: 22,
-                place: 12,
-                inner: 0,
-            },
-            JobFault::Record(place) => FaultTold {
-                number: 23,
-                place,
-                inner: 0,
-            },
-            JobFault::Table => FaultTold {
-                number: 24,
-                place: 0,
-                inner: 0,
-            },
+            JobFault::Short(length) => at(19, length as u16, 0),
+            JobFault::Figures(row) => at(20, row.place(), row.number()),
+            JobFault::Reserved => at(21, 6, 0),
+            JobFault::Length => at(22, 12, 0),
+            JobFault::Record(place) => at(23, place, 0),
+            JobFault::Table => at(24, 0, 0),
         }
     }
 }
