@@ -16,7 +16,8 @@ use Rattle.std.specs.declared.option.Option.the-variants.{Some, None}
 use Rattle.std.specs.declared.result.Result.{Result}
 use Rattle.std.specs.declared.result.Result.the-variants.{Ok, Err}
 use Rattle.word.specs.declared.word.Word.{Word}
-use Rattle.page.specs.Pages.{blank-word, outside, read-answer, write-answer}
+use Rattle.page.specs.Pages.{outside, read-answer, write-answer}
+use Rattle.word.specs.Words.{blank-word}
 use Rattle.page.specs.Slots.{Slot, slot-for, in-slot, changed, shown, laid, made-way, slots-after, below-after}
 use Rattle.page.specs.declared.change.Change.{Change}
 use Rattle.page.specs.declared.outside.Outside.{Outside}

@@ -19,7 +19,8 @@ use Rattle.std.specs.declared.result.Result.the-variants.{Ok, Err}
 use Rattle.word.specs.declared.word.Word.{Word}
 use Rattle.page.specs.ByteWords.{group-at, byte-size, byte-words, bytes-after}
 use Rattle.page.specs.Groups.{group-bytes, group-word}
-use Rattle.page.specs.Pages.{read-answer, blank-word, outside}
+use Rattle.page.specs.Pages.{read-answer, outside}
+use Rattle.word.specs.Words.{blank-word}
 use Rattle.page.specs.declared.outside.Outside.{Outside}
 use Rattle.page.proofs.Groups.{group-back}
 

@@ -8,10 +8,10 @@ use native.Mathlib.Nat.{div-add-mod', div-div-eq-div-mul, mod-eq-of-lt}
 use native.Mathlib.Omega.{arith}
 use lib.ListN.{length}
 use Rattle.word.proofs.Marks.{lawful-tells}
-use Rattle.word.specs.Marks.{number}
+use Rattle.word.specs.Marks.{number, mark-at}
 use Rattle.word.specs.declared.mark.Mark.{Mark}
 use Rattle.word.specs.declared.word.Word.{Word}
-use Rattle.page.specs.Groups.{four-bytes, four-number, mark-read, group-bytes, group-word}
+use Rattle.page.specs.Groups.{four-bytes, four-number, group-bytes, group-word}
 use Rattle.page.proofs.Marks.{mark-read-number}
 
 -- four bytes make up the number below 2 ^ 32 that they were taken from
@@ -39,12 +39,12 @@ group-back x bytes e h = ap group-word e ∙ back
     back : group-word (group-bytes x) ≡ x
     back =
         let value = four-back (x .value) h in
-        let mark = ap mark-read (four-back (number (x .mark)) (number-lt (x .mark))) ∙ mark-read-number (x .mark) in
+        let mark = ap mark-at (four-back (number (x .mark)) (number-lt (x .mark))) ∙ mark-read-number (x .mark) in
         λ i. record { value = value i; mark = mark i }
 
 -- a value and a mark are a group's word where they are read from its two halves
-pub word-from-halves : (bytes : List ℕ) (halves : ℕ × ℕ) (m : Mark) → halves ≡ (four-number bytes 0, four-number bytes 4) → m ≡ mark-read (halves .1) → _≡_ {A = Word} (record { value = halves .0; mark = m }) (group-word bytes)
+pub word-from-halves : (bytes : List ℕ) (halves : ℕ × ℕ) (m : Mark) → halves ≡ (four-number bytes 0, four-number bytes 4) → m ≡ mark-at (halves .1) → _≡_ {A = Word} (record { value = halves .0; mark = m }) (group-word bytes)
 word-from-halves bytes halves m e mark =
     let value = ap (λ (h : ℕ × ℕ). h .0) e in
-    let read = mark ∙ ap (λ (h : ℕ × ℕ). mark-read (h .1)) e in
+    let read = mark ∙ ap (λ (h : ℕ × ℕ). mark-at (h .1)) e in
     λ i. record { value = value i; mark = read i }

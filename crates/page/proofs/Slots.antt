@@ -19,7 +19,7 @@ use Rattle.std.specs.Iters.{counting}
 use Rattle.std.specs.declared.option.Option.{Option}
 use Rattle.std.specs.declared.option.Option.the-variants.{Some, None}
 use Rattle.word.specs.declared.word.Word.{Word}
-use Rattle.page.specs.Pages.{blank-word}
+use Rattle.word.specs.Words.{blank-word}
 use Rattle.page.specs.Slots.{Slot, slot-for, in-slot, changed, shown, flushed, laid, slots-after, made-way, below-after}
 use Rattle.page.specs.declared.change.Change.{Change}
 

@@ -5,7 +5,7 @@ use mathlib.Core.List.{List, [], _∷_}
 use lib.Dec.{ltb}
 use lib.ListN.{length, getD, set}
 use Rattle.word.specs.declared.word.Word.{Word}
-use Rattle.page.specs.Pages.{blank-word}
+use Rattle.word.specs.Words.{blank-word}
 use Rattle.page.specs.declared.access.Access.{Access}
 use Rattle.page.specs.declared.access.Access.the-variants.{Read, Write}
 use Rattle.page.specs.declared.access.Reply.{Reply}

@@ -10,7 +10,7 @@ use Rattle.std.specs.Iters.{counting}
 use Rattle.std.specs.declared.option.Option.{Option}
 use Rattle.std.specs.declared.option.Option.the-variants.{Some, None}
 use Rattle.word.specs.declared.word.Word.{Word}
-use Rattle.page.specs.Pages.{blank-word}
+use Rattle.word.specs.Words.{blank-word}
 use Rattle.page.specs.declared.change.Change.{Change}
 
 -- what a slot holds: a changed word with its place, or nothing

@@ -24,7 +24,8 @@ use Rattle.rules.specs.Histories.{loaded, load-of, given-by, Load-given, Wante
 use Rattle.rules.specs.Laws.{No-stale, Refusals-told, old-word, size}
 use Rattle.rules.specs.Refusals.{refusal}
 use Rattle.rules.specs.Runs.{Event, History, Chain, Ran}
-use Rattle.rules.specs.State.{Ledger, State, Setting, setting, opening, blank}
+use Rattle.rules.specs.State.{Ledger, State, Setting, setting, opening}
+use Rattle.word.specs.Words.{blank-word}
 use Rattle.rules.specs.Steps.{step, outcome, answered, again}
 use Rattle.rules.proofs.Invariant.{Fits, load-is-fresh}
 use Rattle.rules.proofs.Opening.{fits, opening-moment}

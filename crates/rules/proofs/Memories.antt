@@ -14,7 +14,8 @@ use Rattle.std.proofs.shelf.Lists.{getD-set-same, getD-set-other}
 use Rattle.call.specs.Figures.{Five, slot-of}
 use Rattle.word.specs.declared.word.Word.{Word}
 use Rattle.rules.specs.Effects.{with-copy, write-back, write-back-by}
-use Rattle.rules.specs.State.{Copy, invalid, valid, registered, Memory, page-word, blank}
+use Rattle.rules.specs.State.{Copy, invalid, valid, registered, Memory, page-word}
+use Rattle.word.specs.Words.{blank-word}
 use Rattle.rules.specs.Tables.{upd, upd2}
 use Rattle.rules.proofs.Tables.{upd-cases, upd2-cases}
 
@@ -49,8 +50,8 @@ module _ (f : Five) (now : ℕ → Word) (stale : ℕ → ℕ → Type 0) where
     home-after w e =
         let l = s .inside c i v y here in
         ⊎-elim
-        (λ p. ap (λ (k : ℕ). getD (set (m .page) v y) k blank) (p .0) ∙ getD-set-same (m .page) v y blank l ∙ (y-now ∙ ap now (sym (p .0))))
-        (λ p. getD-set-other (m .page) v w y blank (p .0) ∙ s .home w (sym (p .1) ∙ e))
+        (λ p. ap (λ (k : ℕ). getD (set (m .page) v y) k blank-word) (p .0) ∙ getD-set-same (m .page) v y blank-word l ∙ (y-now ∙ ap now (sym (p .0))))
+        (λ p. getD-set-other (m .page) v w y blank-word (p .0) ∙ s .home w (sym (p .1) ∙ e))
         (upd-cases (m .owners) v None w)
 
     owned-after : (w d : ℕ) → after .owners w ≡ Some d → after .copies d (slot-of f w) ≡ registered w (now w)

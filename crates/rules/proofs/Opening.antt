@@ -16,7 +16,8 @@ use Rattle.call.specs.declared.fault.FigureFault.{FigureFault}
 use Rattle.call.specs.declared.fault.FigureFault.the-variants.{Cores, Slots, Words, Strip, Allowance}
 use Rattle.sets.specs.Sentences.{Sets}
 use Rattle.word.specs.declared.word.Word.{Word}
-use Rattle.rules.specs.State.{setting, size-of, opening, opened, unmarked, blank}
+use Rattle.rules.specs.State.{setting, size-of, opening, opened, unmarked}
+use Rattle.word.specs.Words.{blank-word}
 use Rattle.rules.proofs.Invariant.{Fits, Good}
 use Rattle.rules.proofs.Walking.{Moment}
 
@@ -31,7 +32,7 @@ opened-length n [] = refl
 opened-length zero (x ∷ xs) = refl
 opened-length (suc n) (x ∷ xs) = ap suc (opened-length n xs)
 
-pub opened-at : (n : ℕ) (page : List Word) (w : ℕ) → w < n → getD (opened n page) w blank ≡ unmarked (getD page w blank)
+pub opened-at : (n : ℕ) (page : List Word) (w : ℕ) → w < n → getD (opened n page) w blank-word ≡ unmarked (getD page w blank-word)
 opened-at n [] w l = refl
 opened-at zero (x ∷ xs) w l = let no-way : ⊥ = omega arith in absurd no-way
 opened-at (suc n) (x ∷ xs) zero l = refl
@@ -53,7 +54,7 @@ module _ (f : Five) (page : List Word) (ok : checked f ≡ Ok f) where
         allowance = leb-true (f .allowance) 1000000 (and-parts (leb 1 (f .allowance)) (leb (f .allowance) 1000000) (p5 .0) .1);
       }
 
-  opening-good : (g : Sets) → Good (setting f page) (λ w. getD (opened (size-of f page) page) w blank) (opening f page) g
+  opening-good : (g : Sets) → Good (setting f page) (λ w. getD (opened (size-of f page) page) w blank-word) (opening f page) g
   opening-good g =
       record {
         sound =
@@ -75,10 +76,10 @@ module _ (f : Five) (page : List Word) (ok : checked f ≡ Ok f) where
         long = rw opened-length (omega arith);
       }
 
-  pub opening-moment : (g : Sets) → Moment (setting f page) fits (λ w. getD page w blank) [] (opening f page) g
+  pub opening-moment : (g : Sets) → Moment (setting f page) fits (λ w. getD page w blank-word) [] (opening f page) g
   opening-moment g =
       record {
-        now = λ w. getD (opened (size-of f page) page) w blank;
+        now = λ w. getD (opened (size-of f page) page) w blank-word;
         good = opening-good g;
         told = record { ledger = refl; counts = λ w c. refl; fresh = λ w l. opened-at (size-of f page) page w l; lawful = λ w s e. grind arith };
       }

@@ -17,7 +17,8 @@ use Rattle.call.specs.Figures.{Five, slot-of}
 use Rattle.word.specs.declared.word.Word.{Word}
 use Rattle.rules.specs.Effects as effect
 use Rattle.rules.specs.Effects.{Got, Put, Place, with-copy, write-back, write-back-by, word-in, fetch, fetch-into, fetch-by, load-row, hit, claim, claim-from, claim-by, store-row, evict-row, places, dropped, faded}
-use Rattle.rules.specs.State.{Copy, invalid, valid, registered, Memory, page-word, of-word, copy-of, blank}
+use Rattle.rules.specs.State.{Copy, invalid, valid, registered, Memory, page-word, of-word, copy-of}
+use Rattle.word.specs.Words.{blank-word}
 use Rattle.rules.specs.Tables.{upd, upd2}
 use Rattle.rules.proofs.Memories.{Sound, Unregistered, Loose, write-back-sound, write-back-clears, dropped-sound, filled-sound, loose-unowned, loose-taken, claimed-sound}
 use Rattle.rules.proofs.Tables.{upd-cases, upd2-cases}

@@ -13,7 +13,8 @@ use Rattle.rules.specs.Cases.{sample}
 use Rattle.rules.specs.Laws.{Same-order}
 use Rattle.rules.specs.Runs.{Ran, History, history-of}
 use Rattle.rules.specs.Signed.{played, bloom}
-use Rattle.rules.specs.State.{Copy, valid, blank, setting}
+use Rattle.rules.specs.State.{Copy, valid, setting}
+use Rattle.word.specs.Words.{blank-word}
 use Rattle.rules.specs.Steps.{step}
 
 -- ── the sample job ──
@@ -141,6 +142,6 @@ again =
 -- core 1 still has the old word as a valid copy, and its load gives the new one, from the owner's copy
 abbrev pub Old-copy-fetched : Type 0
 Old-copy-fetched =
-    (played sample again .state .memory .copies 1 2 ≡ valid 6 blank)
+    (played sample again .state .memory .copies 1 2 ≡ valid 6 blank-word)
     × (step (setting sample (played sample again .state .memory .page)) (bloom .holds (played sample again .signature)) (played sample again .state) (Load 1 6) .answer
     ≡ Loaded (record { value = 7; mark = mark-at 1 }) 2)

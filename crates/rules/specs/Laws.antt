@@ -19,12 +19,13 @@ use Rattle.word.specs.declared.word.Word.{Word}
 use Rattle.rules.specs.Histories.{accepted, refused-with, loaded, Load-given, stores-to, last-store, Fresh, ledger-of, touches, accessed, this-phase, other-access, order-of-holders, calls-of}
 use Rattle.rules.specs.Refusals.{refusal}
 use Rattle.rules.specs.Runs.{Event, History, Ran}
-use Rattle.rules.specs.State.{Accessed, State, size-of, setting, page-word, blank}
+use Rattle.rules.specs.State.{Accessed, State, size-of, setting, page-word}
+use Rattle.word.specs.Words.{blank-word}
 use Rattle.rules.specs.Tables.{some-of}
 
 -- the opening word at a place, before its mark was taken off
 abbrev pub old-word : Ran → ℕ → Word
-old-word r w = getD (r .page) w blank
+old-word r w = getD (r .page) w blank-word
 
 abbrev pub size : Ran → ℕ
 size r = size-of (r .figures) (r .page)

@@ -10,7 +10,7 @@ use Rattle.sets.specs.Rows.{bits-put, rows-taken-in, rows-cleared, words-of-bit
 use Rattle.sets.specs.Sentences.{Sets}
 use Rattle.word.specs.declared.word.Word.{Word}
 use Rattle.rules.specs.Runs.{Played, run}
-use Rattle.rules.specs.State.{blank}
+use Rattle.word.specs.Words.{blank-word}
 use Rattle.rules.specs.Steps.{Operations}
 
 -- a test of (core, bit) for the 256 bits of each core
@@ -23,7 +23,7 @@ no-bits core bit = false
 
 -- a page of as many words as the figures name, all 0
 abbrev pub zero-page : Five → List Word
-zero-page f = replicate (f .words) blank
+zero-page f = replicate (f .words) blank-word
 
 -- the calls on a fresh board over such a page
 abbrev pub played : Five → List Call → Played Sets

@@ -9,7 +9,7 @@ use Rattle.std.specs.declared.option.Option.{Option}
 use Rattle.std.specs.declared.option.Option.the-variants.{Some, None}
 use Rattle.call.specs.Figures.{Five, slot-of}
 use Rattle.call.specs.declared.refusal.Access.{Access}
-use Rattle.word.specs.Marks.{mark-at}
+use Rattle.word.specs.Words.{blank-mark, blank-word}
 use Rattle.word.specs.declared.word.Word.{Word}
 
 -- a copy in a slot of a core's cache: none, or a word's number with the word; a registered copy is the one that counts
@@ -54,17 +54,13 @@ pub record Setting : Type 0 where
   pub figures : Five
   pub size : ℕ
 
--- the word with value 0 and a blank mark: what a place past the page's end reads as
-abbrev pub blank : Word
-blank = record { value = 0; mark = mark-at 0 }
-
 -- the page's word at a place
 abbrev pub page-word : Memory → ℕ → Word
-page-word m w = getD (m .page) w blank
+page-word m w = getD (m .page) w blank-word
 
 -- the same value with a blank mark
 abbrev pub unmarked : Word → Word
-unmarked x = record { value = x .value; mark = mark-at 0 }
+unmarked x = record { value = x .value; mark = blank-mark }
 
 -- the page with its first n words unmarked
 abbrev pub opened : ℕ → List Word → List Word

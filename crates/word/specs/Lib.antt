@@ -1,3 +1,4 @@
 -- The definitions that the contracts of words and marks cite.
 pub mod Lawful
 pub mod Marks
+pub mod Words
