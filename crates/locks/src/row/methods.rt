@@ -1,0 +1,72 @@
+//! What is done to one lock.
+ghost use Prim.Native.Nat.{_<_};
+ghost use lib.ListN.{length};
+ghost use mathlib.Core.Bool.{true};
+ghost use mathlib.Core.Path.{_≡_};
+ghost use Rattle.std.specs.Options.{isSome};
+ghost use Rattle.rules.specs.State.{free};
+ghost use Rattle.rules.specs.Steps.{acquired-by, released-to, forgetting};
+ghost use Rattle.locks.specs.Rows.{lock-of, granted, passed-to};
+use super::Row;
+use crate::grant::Grant;
+
+impl Row {
+    /// A lock that nobody holds and nobody has released.
+    pub fn free() -> Row
+        ensures { λ r. ⌜ lock-of r ≡ free ⌝ }
+    {
+        Row {
+            holder: None,
+            last: None,
+            queue: [0; 7],
+            waiting: 0,
+        }
+    }
+
+    /// The core that holds the lock, if any.
+    pub fn holder(&self) -> Option<u8>
+        ensures { λ r. ⌜ r ≡ lock-of (now (self .entry)) .holder ⌝ }
+    {
+        let holder = self.holder;
+        holder
+    }
+
+    /// Gives a free lock to the core, or queues the core last.
+    pub fn acquire(&mut self, core: u8) -> Grant
+        requires { ⌜ (isSome (lock-of (now self) .holder) ≡ true → length (lock-of (now self) .queue) < 7) ⌝ }
+        ensures answer { λ r. ⌜ r ≡ granted (lock-of (now (self .entry)) .holder) (lock-of (now (self .entry))) ⌝ }
+        ensures after { λ _. ⌜ lock-of (now (self .exit)) ≡ acquired-by (lock-of (now (self .entry)) .holder) (lock-of (now (self .entry))) core ⌝ }
+    {
+        if self.holder.is_some() {
+            self.queue[self.waiting as usize] = core;
+            self.waiting += 1;
+            return Grant::Queued;
+        }
+        self.holder = Some(core);
+        Grant::Granted(self.last)
+    }
+
+    /// Passes the lock to the first in the queue, if there is one, and remembers who released it.
+    pub fn release(&mut self, core: u8) -> Option<u8>
+        ensures answer { λ r. ⌜ r ≡ passed-to (lock-of (now (self .entry)) .queue) ⌝ }
+        ensures after { λ _. ⌜ lock-of (now (self .exit)) ≡ released-to (lock-of (now (self .entry)) .queue) core ⌝ }
+    {
+        self.last = Some(core);
+        if self.waiting == 0 {
+            self.holder = None;
+            return None;
+        }
+        let [next, a, b, c, d, e, f] = self.queue;
+        self.queue = [a, b, c, d, e, f, 0];
+        self.waiting -= 1;
+        self.holder = Some(next);
+        Some(next)
+    }
+
+    /// Forgets the last releaser.
+    pub fn forget(&mut self)
+        ensures { λ _. ⌜ lock-of (now (self .exit)) ≡ forgetting (lock-of (now (self .entry))) ⌝ }
+    {
+        self.last = None;
+    }
+}

@@ -1,0 +1,103 @@
+//! What is done to the locks, and what can be asked of them.
+ghost use Prim.Native.Nat.{ℕ, _<_};
+ghost use lib.ListN.{length, getD, replicate};
+ghost use mathlib.Core.Bool.{true, false};
+ghost use mathlib.Core.List.{map};
+ghost use mathlib.Core.Path.{_≡_};
+ghost use Rattle.rules.specs.Refusals.{waits, holds, holds-some, some-held};
+ghost use Rattle.rules.specs.State.{free};
+ghost use Rattle.rules.specs.Steps.{acquired-by, released-to, forgetting};
+ghost use Rattle.rules.specs.Tables.{upd};
+ghost use Rattle.locks.specs.Acquire.{acquire-answer, acquire-after};
+ghost use Rattle.locks.specs.Release.{release-answer, release-after};
+ghost use Rattle.locks.specs.Rows.{lock-of, granted, passed-to};
+ghost use Rattle.locks.specs.Ties.{waiting, holding};
+ghost use Rattle.locks.specs.Views.{locks-of, does};
+ghost use Rattle.locks.specs.declared.attendance.Attendance.the-variants.{Away};
+use super::Locks;
+use crate::grant::Grant;
+use crate::attendance::Attendance;
+use crate::row::Row;
+use crate::row::several::acquire_at;
+use call::Refusal;
+
+impl Locks {
+    /// Eight locks that nobody holds.
+    pub fn free() -> Locks
+        ensures { λ r. ⌜ locks-of r ≡ (λ _. free) ⌝ }
+    {
+        Locks {
+            rows: [Row::free(); 8],
+            cores: [Attendance::Away; 8],
+        }
+    }
+
+    // What a core does about locks; a core above 7 does nothing.
+    fn does(&self, core: u8) -> Attendance
+        ensures { λ r. ⌜ r ≡ does (now (self .entry)) core ⌝ }
+    {
+        if core >= 8 {
+            return Attendance::Away;
+        }
+        self.cores[core as usize]
+    }
+
+    /// Whether the core waits for a lock.
+    pub fn waits(&self, core: u8) -> bool
+        ensures { λ r. ⌜ r ≡ waits (locks-of (now (self .entry))) core ⌝ }
+    {
+        self.does(core).is_waiting()
+    }
+
+    /// Whether the core holds this lock; there is none above 7.
+    pub fn holds(&self, core: u8, lock: u8) -> bool
+        ensures { λ r. ⌜ r ≡ holds (locks-of (now (self .entry))) core lock ⌝ }
+    {
+        if lock >= 8 {
+            return false;
+        }
+        match self.rows[lock as usize].holder() {
+            Some(holder) => holder == core,
+            None => false,
+        }
+    }
+
+    // Whether the core holds some lock.
+    fn holds_some(&self, core: u8) -> bool
+        ensures { λ r. ⌜ r ≡ holds-some (locks-of (now (self .entry))) core ⌝ }
+    {
+        self.does(core).is_holding()
+    }
+
+    /// Gives a free lock to the core, with its last releaser, or queues the core for a held lock. A core that holds a lock
+    /// or waits for one is refused.
+    pub fn acquire(&mut self, core: u8, lock: u8) -> Result<Grant, Refusal>
+        ensures answer { λ r. ⌜ r ≡ acquire-answer (locks-of (now (self .entry))) core lock ⌝ }
+        ensures after { λ _. ⌜ locks-of (now (self .exit)) ≡ acquire-after (locks-of (now (self .entry))) core lock ⌝ }
+    {
+        if core >= 8 {
+            return Err(Refusal::NoCore);
+        }
+        if self.waits(core) {
+            return Err(Refusal::Waiting);
+        }
+        if lock >= 8 {
+            return Err(Refusal::NoLock);
+        }
+        if self.holds_some(core) {
+            return Err(Refusal::HoldsLock);
+        }
+        Ok(self.enter(core, lock))
+    }
+
+    // A core that does nothing gets the lock or is queued for it.
+    fn enter(&mut self, core: u8, lock: u8) -> Grant
+        requires { ⌜ core < 8 ⌝ ∗ ⌜ lock < 8 ⌝ ∗ ⌜ does (now self) core ≡ Away ⌝ }
+        ensures answer { λ r. ⌜ r ≡ granted (locks-of (now (self .entry)) lock .holder) (locks-of (now (self .entry)) lock) ⌝ }
+        ensures after { λ _. ⌜ locks-of (now (self .exit)) ≡ upd (locks-of (now (self .entry))) lock (acquired-by (locks-of (now (self .entry)) lock .holder) (locks-of (now (self .entry)) lock) core) ⌝ }
+    {
+        let grant = acquire_at(&mut self.rows, lock, core);
+        self.cores[core as usize] = Attendance::after(grant, lock);
+        grant
+    }
+}
