@@ -41,7 +41,7 @@ module _ (s : Locks) where
       go (Holds held) p q = absurd (false≢true q)
       go (Waits wanted) p q = absurd (false≢true p)
 
-  does-past : (c : ℕ) → 8 ≤ c → does s c ≡ Away
+  pub does-past : (c : ℕ) → 8 ≤ c → does s c ≡ Away
   does-past c h = let n = s .«eight_cores» in getD-past (s .cores) c Away (omega arith)
 
   -- a held lock has room in its queue for a core that does nothing

@@ -5,3 +5,4 @@ mod Ties
 mod Tables
 mod Questions
 mod Kept
+mod Changes

@@ -13,12 +13,16 @@ ghost use Rattle.locks.specs.Release.{release-answer, release-after};
 ghost use Rattle.locks.specs.Rows.{lock-of, granted, passed-to};
 ghost use Rattle.locks.specs.Ties.{waiting, holding};
 ghost use Rattle.locks.specs.Views.{locks-of, does};
-ghost use Rattle.locks.specs.declared.attendance.Attendance.the-variants.{Away};
+ghost use Rattle.locks.specs.declared.attendance.Attendance.the-variants.{Away, Holds};
 use super::Locks;
 use crate::grant::Grant;
 use crate::attendance::Attendance;
+use crate::attendance::methods::hand_over;
 use crate::row::Row;
 use crate::row::several::acquire_at;
+use crate::row::several::any_held;
+use crate::row::several::forget_all;
+use crate::row::several::release_at;
 use call::Refusal;
 
 impl Locks {
@@ -62,6 +66,13 @@ impl Locks {
         }
     }
 
+    /// Whether some lock is held.
+    pub fn some_held(&self) -> bool
+        ensures { λ r. ⌜ r ≡ some-held (locks-of (now (self .entry))) ⌝ }
+    {
+        any_held(&self.rows)
+    }
+
     // Whether the core holds some lock.
     fn holds_some(&self, core: u8) -> bool
         ensures { λ r. ⌜ r ≡ holds-some (locks-of (now (self .entry))) core ⌝ }
@@ -99,5 +110,44 @@ impl Locks {
         let grant = acquire_at(&mut self.rows, lock, core);
         self.cores[core as usize] = Attendance::after(grant, lock);
         grant
+    }
+
+    /// Passes the lock that the core holds to the first in its queue, and answers that core, if there is one. Who does not
+    /// hold the lock is refused.
+    pub fn release(&mut self, core: u8, lock: u8) -> Result<Option<u8>, Refusal>
+        ensures answer { λ r. ⌜ r ≡ release-answer (locks-of (now (self .entry))) core lock ⌝ }
+        ensures after { λ _. ⌜ locks-of (now (self .exit)) ≡ release-after (locks-of (now (self .entry))) core lock ⌝ }
+    {
+        if core >= 8 {
+            return Err(Refusal::NoCore);
+        }
+        if self.waits(core) {
+            return Err(Refusal::Waiting);
+        }
+        if lock >= 8 {
+            return Err(Refusal::NoLock);
+        }
+        if !self.holds(core, lock) {
+            return Err(Refusal::NotHeld);
+        }
+        Ok(self.leave(core, lock))
+    }
+
+    // The holder puts the lock down, and the first in the queue takes it up.
+    fn leave(&mut self, core: u8, lock: u8) -> Option<u8>
+        requires { ⌜ core < 8 ⌝ ∗ ⌜ lock < 8 ⌝ ∗ ⌜ does (now self) core ≡ Holds lock ⌝ }
+        ensures answer { λ r. ⌜ r ≡ passed-to (locks-of (now (self .entry)) lock .queue) ⌝ }
+        ensures after { λ _. ⌜ locks-of (now (self .exit)) ≡ upd (locks-of (now (self .entry))) lock (released-to (locks-of (now (self .entry)) lock .queue) core) ⌝ }
+    {
+        let next = release_at(&mut self.rows, lock, core);
+        hand_over(&mut self.cores, core, next, lock);
+        next
+    }
+
+    /// Forgets who released each lock last: a phase that begins has no releasers yet.
+    pub fn forget_releasers(&mut self)
+        ensures { λ _. ⌜ locks-of (now (self .exit)) ≡ (λ lock. forgetting (locks-of (now (self .entry)) lock)) ⌝ }
+    {
+        forget_all(&mut self.rows);
     }
 }
