@@ -6,3 +6,4 @@ mod Tables
 mod Questions
 mod Kept
 mod Changes
+mod Forgetting

@@ -6,6 +6,8 @@ use mathlib.Core.Path.{_≡_, refl, sym, ap, _∙_}
 use Prim.Native.Nat.{ℕ, _<_}
 use lib.ListN.{length, getD, set}
 use Rattle.std.proofs.shelf.Lists.{getD-set-same, getD-set-other, map-set, getD-map, length-map, length-set}
+use Rattle.std.specs.Options.{isSome}
+use Rattle.std.specs.declared.option.Option.{Option}
 use Rattle.rules.proofs.Tables.{upd-cases}
 use Rattle.rules.specs.State.{Lock, free}
 use Rattle.rules.specs.Tables.{upd}
@@ -48,3 +50,8 @@ module _ (rows after : List Row) (lock : ℕ) (new : Lock) (within : lock < leng
       Tied f g (kept after) (λ c. getD (set cores core now) c Away)
   tied-lists f g cores core now b tied c l =
       ap (f c) (kept-at l) ∙ tied c l ∙ ap (λ (d : Attendance). g d l) (sym (set-upd cores core now Away b c))
+
+-- whether a lock is held, as its row tells
+pub held-at : (rows : List Row) (k : ℕ) (row : Row) (holder : Option ℕ) → k < length rows → row ≡ getD rows k row → holder ≡ row .holder → isSome (kept rows k .holder) ≡ isSome holder
+held-at rows k row holder l e h =
+    ap (λ (x : Lock). isSome (x .holder)) (kept-row rows k row l) ∙ ap (λ (r : Row). isSome (r .holder)) (sym e) ∙ ap (λ (o : Option ℕ). isSome o) (sym h)
