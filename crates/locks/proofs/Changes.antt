@@ -124,9 +124,10 @@ module _ (s : Locks) (core lock : ℕ) (below : core < 8) (within : lock < 8) wh
         let here = upd-same (locks-of s) lock down in
         let queue = ap (λ (l : Lock). l .queue) here ∙ e in
         let same = sym (upd-twice (locks-of s) lock down (passed locks does lock next more (Some core) down-queues down-holders)) in
-        let cores = set-doing (set (s .cores) core Away) next (Holds lock) (rw length-set n) ∙ ap (λ (h : ℕ → Attendance). upd h next (Holds lock)) (set-doing (s .cores) core Away in-cores) in
-        (tied-same queue-count wait-count _ _ _ _ same cores (passed-queues locks does lock next more (Some core) down-queues down-holders queue),
-         tied-same is-holder holder-of _ _ _ _ same cores (passed-holders locks does lock next more (Some core) down-queues down-holders queue (ap (λ (l : Lock). l .holder) here)))
+        let cores = set-doing (set (s .cores) core Away) next (Holds lock) (rw length-set n) ∙ ap (λ (h : ℕ → Attendance). upd h next (Holds lock)) (set-doing (s .cores) core Away in-cores) in (
+          tied-same queue-count wait-count _ _ _ _ same cores (passed-queues locks does lock next more (Some core) down-queues down-holders queue),
+          tied-same is-holder holder-of _ _ _ _ same cores (passed-holders locks does lock next more (Some core) down-queues down-holders queue (ap (λ (l : Lock). l .holder) here)),
+        )
 
     module _ (after : List Row) (e : map lock-of after ≡ set (map lock-of (s .rows)) lock (released-to (locks-of s lock .queue) core)) (cores : List Attendance) (d : cores ≡ handed (s .cores) core (passed-to (locks-of s lock .queue)) lock) where
       pub release-queues : Queues-tied (kept after) (doing cores)

@@ -29,7 +29,7 @@ pub forget-more : (start rows : List Row) (i : ℕ) (d row : Row) → i < length
 forget-more start rows i d row l n e r =
     set-row rows i row (forgetting (lock-of (getD rows i d))) r
     ∙ map-over-more forgetting (map lock-of start) (map lock-of rows) i (lock-of (getD rows i d)) (rw length-map l) e
-      (sym (getD-map lock-of rows i d (lock-of (getD rows i d)) (omega arith)))
+    (sym (getD-map lock-of rows i d (lock-of (getD rows i d)) (omega arith)))
 
 -- all of them
 pub forget-end : (start rows : List Row) (i : ℕ) → length start ≤ i →

@@ -39,8 +39,8 @@ seven : (xs : List ℕ) → length xs ≡ 7 → xs ≡ getD xs 0 0 ∷ behind xs
 seven xs full =
     from xs 0 _ (omega arith)
     (from xs 1 _ (omega arith)
-     (from xs 2 _ (omega arith)
-      (from xs 3 _ (omega arith) (from xs 4 _ (omega arith) (from xs 5 _ (omega arith) (from xs 6 _ (omega arith) (drop-all 7 xs (omega arith))))))))
+    (from xs 2 _ (omega arith)
+    (from xs 3 _ (omega arith) (from xs 4 _ (omega arith) (from xs 5 _ (omega arith) (from xs 6 _ (omega arith) (drop-all 7 xs (omega arith))))))))
 
 some-waiting : (w x : ℕ) (xs : List ℕ) → 0 < w → take w (x ∷ xs) ≡ x ∷ take (w - 1) xs
 some-waiting zero x xs l = let no-way : ⊥ = omega arith in absurd no-way

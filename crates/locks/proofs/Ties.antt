@@ -166,10 +166,13 @@ module _ (locks : ℕ → Lock) (does : ℕ → Attendance) (core lock : ℕ) (q
       facts : (c : ℕ) (d : Attendance) → does c ≡ d → (eqb holder c ≡ holder-of d lock) × (occurs c (locks lock .queue) ≡ wait-count d lock)
       facts c d h =
           (ap (λ (o : Option ℕ). is o c) (sym e) ∙ holders c lock ∙ ap (λ (x : Attendance). holder-of x lock) h, queues c lock ∙ ap (λ (x : Attendance). wait-count x lock) h)
+
       far : (c : ℕ) → 8 ≤ c → occurs c (holder ∷ core ∷ locks lock .queue) ≡ 0
       far c l = let f = facts c Away (past c l) in grind (arith, tells)
+
       other : (c : ℕ) (d : Attendance) → does c ≡ d → (d ≡ Away → ⊥) → eqb core c ≡ false
       other c d h n = ne-eqb core c (λ k. n (sym h ∙ ap does (sym k) ∙ away))
+
       once : (c : ℕ) → occurs c (holder ∷ core ∷ locks lock .queue) ≤ 1
       once c = go (does c) refl
         where

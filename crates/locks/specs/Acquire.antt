@@ -3,27 +3,16 @@ use mathlib.Core.List.{List, [], _∷_}
 use Prim.Native.Nat.{ℕ}
 use lib.Dec.{leb}
 use Rattle.std.specs.declared.option.Option.{Option}
-use Rattle.std.specs.declared.option.Option.the-variants.{Some, None}
 use Rattle.std.specs.declared.result.Result.{Result}
-use Rattle.std.specs.declared.result.Result.the-variants.{Ok, Err}
 use Rattle.call.specs.declared.refusal.Refusal.{Refusal}
 use Rattle.call.specs.declared.refusal.Refusal.the-variants.{NoCore, Waiting, NoLock, HoldsLock}
 use Rattle.rules.specs.Refusals.{waits, holds-some}
 use Rattle.rules.specs.State.{Lock}
 use Rattle.rules.specs.Steps.{acquired-by}
 use Rattle.rules.specs.Tables.{first, when, upd}
+use Rattle.locks.specs.Refused.{answered, left}
 use Rattle.locks.specs.Rows.{granted}
 use Rattle.locks.specs.declared.grant.Grant.{Grant}
-
--- a refusal where there is one, else the answer
-abbrev pub answered : {X : Type 0} → Option Refusal → X → Result X Refusal
-answered None x = Ok x
-answered (Some refusal) x = Err refusal
-
--- a refusal leaves the locks as they stood
-abbrev pub left : Option Refusal → (ℕ → Lock) → (ℕ → Lock) → ℕ → Lock
-left None before after = after
-left (Some refusal) before after = before
 
 module _ (locks : ℕ → Lock) (core lock : ℕ) where
   -- the rows of acquire, in order

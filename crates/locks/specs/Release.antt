@@ -11,7 +11,7 @@ use Rattle.rules.specs.Refusals.{waits, holds}
 use Rattle.rules.specs.State.{Lock}
 use Rattle.rules.specs.Steps.{released-to}
 use Rattle.rules.specs.Tables.{first, when, upd}
-use Rattle.locks.specs.Acquire.{answered, left}
+use Rattle.locks.specs.Refused.{answered, left}
 use Rattle.locks.specs.Rows.{passed-to}
 
 module _ (locks : ℕ → Lock) (core lock : ℕ) where

@@ -1,4 +1,5 @@
--- How what a core does is tied to the locks: by how often it stands in a queue, and by whether it is a holder. Assumes nothing.
+-- What a core does about locks, how it is tied to the locks (by how often the core stands in a queue, and by whether it is a
+-- holder), and how acquire and release change it. Assumes nothing.
 use mathlib.Core.Bool.{Bool, true, false, cond}
 use mathlib.Core.List.{List, [], _∷_}
 use Prim.Native.Nat.{ℕ, _+_}

@@ -37,13 +37,17 @@ impl Row {
         ensures answer { λ r. ⌜ r ≡ granted (lock-of (now (self .entry)) .holder) (lock-of (now (self .entry))) ⌝ }
         ensures after { λ _. ⌜ lock-of (now (self .exit)) ≡ acquired-by (lock-of (now (self .entry)) .holder) (lock-of (now (self .entry))) core ⌝ }
     {
-        if self.holder.is_some() {
-            self.queue[self.waiting as usize] = core;
-            self.waiting += 1;
-            return Grant::Queued;
+        match self.holder {
+            None => {
+                self.holder = Some(core);
+                Grant::Granted(self.last)
+            }
+            Some(_) => {
+                self.queue[self.waiting as usize] = core;
+                self.waiting += 1;
+                Grant::Queued
+            }
         }
-        self.holder = Some(core);
-        Grant::Granted(self.last)
     }
 
     /// Passes the lock to the first in the queue, if there is one, and remembers who released it.

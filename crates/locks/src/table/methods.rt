@@ -15,9 +15,9 @@ ghost use Rattle.locks.specs.Ties.{waiting, holding};
 ghost use Rattle.locks.specs.Views.{locks-of, does};
 ghost use Rattle.locks.specs.declared.attendance.Attendance.the-variants.{Away, Holds};
 use super::Locks;
-use crate::grant::Grant;
 use crate::attendance::Attendance;
 use crate::attendance::methods::hand_over;
+use crate::grant::Grant;
 use crate::row::Row;
 use crate::row::several::acquire_at;
 use crate::row::several::any_held;
@@ -149,5 +149,54 @@ impl Locks {
         ensures { λ _. ⌜ locks-of (now (self .exit)) ≡ (λ lock. forgetting (locks-of (now (self .entry)) lock)) ⌝ }
     {
         forget_all(&mut self.rows);
+    }
+}
+
+// Examples: cores served in turn, each refusal, and releasers that are forgotten.
+#[cfg(test)]
+mod tests {
+    use super::*;
+    use crate::grant::GrantPartialEq;
+    use call::refusal::RefusalPartialEq;
+    use std::test::*;
+
+    // Two cores wait for lock 5 and are served in the order in which they came.
+    #[test]
+    fn served_in_turn() -> Result<(), Fail> {
+        let mut locks = Locks::free();
+        check(locks.acquire(2, 5) == Ok(Grant::Granted(None)))?;
+        check(locks.acquire(7, 5) == Ok(Grant::Queued))?;
+        check(locks.acquire(0, 5) == Ok(Grant::Queued))?;
+        check(locks.release(2, 5) == Ok(Some(7)))?;
+        check(locks.waits(0) && !locks.waits(7))?;
+        check(locks.release(7, 5) == Ok(Some(0)))?;
+        check(locks.release(0, 5) == Ok(None))
+    }
+
+    #[test]
+    fn refusals() -> Result<(), Fail> {
+        let mut locks = Locks::free();
+        check(locks.acquire(8, 8) == Err(Refusal::NoCore))?;
+        check(locks.acquire(0, 8) == Err(Refusal::NoLock))?;
+        check(locks.acquire(0, 7) == Ok(Grant::Granted(None)))?;
+        check(locks.acquire(0, 7) == Err(Refusal::HoldsLock))?;
+        check(locks.release(1, 7) == Err(Refusal::NotHeld))?;
+        check(locks.acquire(1, 7) == Ok(Grant::Queued))?;
+        check(locks.acquire(1, 8) == Err(Refusal::Waiting))?;
+        check(locks.release(255, 0) == Err(Refusal::NoCore))
+    }
+
+    // The last releaser of lock 3 is known until it is forgotten.
+    #[test]
+    fn releasers() -> Result<(), Fail> {
+        let mut locks = Locks::free();
+        check(locks.acquire(4, 3) == Ok(Grant::Granted(None)))?;
+        check(locks.some_held() && locks.holds(4, 3))?;
+        check(locks.release(4, 3) == Ok(None))?;
+        check(locks.acquire(6, 3) == Ok(Grant::Granted(Some(4))))?;
+        check(locks.release(6, 3) == Ok(None))?;
+        check(!locks.some_held())?;
+        locks.forget_releasers();
+        check(locks.acquire(4, 3) == Ok(Grant::Granted(None)))
     }
 }

@@ -1,13 +1,17 @@
+use mathlib.Core.Path.{ap}
+use Prim.Native.Nat.{ℕ}
 use borrow.Author.Needs.{needs}
-use mathlib.Core.Path.{sym, _∙_}
 use Rattle.std.proofs.shelf.Lists.{take-more-set}
+use Rattle.std.specs.Options.{isSome}
+use Rattle.std.specs.declared.option.Option.{Option}
 use Rattle.locks.proofs.Queues.{queued-answer, queued-last}
 use Rattle.locks.proofs.row.Row.acquire.Needs as need
 
-pub returns-then-is-some : need.returns-then-is-some
-returns-then-is-some c =
+pub returns-in-Some : need.returns-in-Some
+returns-in-Some c =
+    let held = ap (λ (o : Option ℕ). isSome o) (c .in-Some .is) in
     record {
-      answer = queued-answer (c .args .self .now .holder) _ (search needs);
-      after = queued-last (c .args .self .now .holder) (c .args .self .now .last) _ _ (c .args .core) (search needs)
+      answer = queued-answer (c .args .self .now .holder) _ held;
+      after = queued-last (c .args .self .now .holder) (c .args .self .now .last) _ _ (c .args .core) held
           (take-more-set (c .args .self .now .queue) (c .args .self .now .waiting) (c .args .core) (search needs));
     }

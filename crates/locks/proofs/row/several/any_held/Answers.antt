@@ -11,11 +11,11 @@ use Rattle.locks.proofs.row.several.any_held.Needs as need
 pub returns-then-is-some : need.returns-then-is-some
 returns-then-is-some c =
     sym (one-of (λ lock. isSome (kept (c .args .rows .now) lock .holder)) (below 8) (c .loop-row .row-index) (in-below (c .loop-row .row-index) 8 (omega arith))
-      (held-at (c .args .rows .now) (c .loop-row .row-index) (c .row-item .result) (c .holder .result) (c .loop-row-test .taken) (c .row-item .is) (c .holder .ensures)
-       ∙ sym (c .is-some .ensures) ∙ c .if-is-some .taken))
+    (held-at (c .args .rows .now) (c .loop-row .row-index) (c .row-item .result) (c .holder .result) (c .loop-row-test .taken) (c .row-item .is) (c .holder .ensures)
+    ∙ sym (c .is-some .ensures) ∙ c .if-is-some .taken))
 
 pub loop-row-again : need.loop-row-again
 loop-row-again c =
     below-more _ _ (c .loop-row .inv)
     (held-at (c .args .rows .now) (c .loop-row .row-index) (c .row-item .result) (c .holder .result) (c .loop-row-test .taken) (c .row-item .is) (c .holder .ensures)
-     ∙ sym (c .is-some .ensures) ∙ c .if-is-some .left)
+    ∙ sym (c .is-some .ensures) ∙ c .if-is-some .left)

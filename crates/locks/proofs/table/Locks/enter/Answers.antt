@@ -21,9 +21,16 @@ returns c =
 
 pub ghost-self : need.ghost-self
 ghost-self c =
-    let cores = ap (set (c .args .self .now .cores) (c .args .core)) (c .after .ensures ∙ ap (λ (g : Grant). attending g (c .args .lock)) (c .acquire-at-grant .ensures .answer)) in
-    (as-many (c .args .self .now .rows) (c .acquire-at-grant .last .rows) (c .args .lock) _ (omega arith) (c .acquire-at-grant .ensures .after) ∙ c .args .self .now .«eight_locks»,
-     (length-set (c .args .self .now .cores) (c .args .core) (c .after .result) ∙ c .args .self .now .«eight_cores»,
-      (acquire-queues (c .args .self .now) (c .args .core) (c .args .lock) (c .pre .0) (c .pre .1 .0) (c .acquire-at-grant .last .rows) (c .acquire-at-grant .ensures .after) (c .pre .1 .1) _ cores,
-       (acquire-holders (c .args .self .now) (c .args .core) (c .args .lock) (c .pre .0) (c .pre .1 .0) (c .acquire-at-grant .last .rows) (c .acquire-at-grant .ensures .after) (c .pre .1 .1) _ cores,
-        tt))))
+    let cores = ap (set (c .args .self .now .cores) (c .args .core)) (c .after .ensures ∙ ap (λ (g : Grant). attending g (c .args .lock)) (c .acquire-at-grant .ensures .answer)) in (
+      as-many (c .args .self .now .rows) (c .acquire-at-grant .last .rows) (c .args .lock) _ (omega arith) (c .acquire-at-grant .ensures .after) ∙ c .args .self .now .«eight_locks»,
+      (
+        length-set (c .args .self .now .cores) (c .args .core) (c .after .result) ∙ c .args .self .now .«eight_cores»,
+        (
+          acquire-queues (c .args .self .now) (c .args .core) (c .args .lock) (c .pre .0) (c .pre .1 .0) (c .acquire-at-grant .last .rows) (c .acquire-at-grant .ensures .after) (c .pre .1 .1) _ cores,
+          (
+            acquire-holders (c .args .self .now) (c .args .core) (c .args .lock) (c .pre .0) (c .pre .1 .0) (c .acquire-at-grant .last .rows) (c .acquire-at-grant .ensures .after) (c .pre .1 .1) _ cores,
+            tt,
+          ),
+        ),
+      ),
+    )
