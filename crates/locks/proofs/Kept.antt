@@ -18,13 +18,13 @@ use Rattle.locks.specs.Views.{locks-of, does}
 use Rattle.locks.specs.declared.attendance.Attendance.{Attendance}
 use Rattle.locks.specs.declared.attendance.Attendance.the-variants.{Away, Holds, Waits}
 use Rattle.locks.specs.declared.table.Locks.{Locks}
+use Rattle.locks.proofs.Tables.{kept-past}
 use Rattle.locks.proofs.Ties.{room-for}
 use Rattle.locks.proofs.Questions.{waits-told, holds-told}
 
 module _ (s : Locks) where
   pub past-seven : (l : ℕ) → 8 ≤ l → locks-of s l ≡ free
-  past-seven l h =
-      let e = length-map (s .rows) lock-of in let n = s .«eight_locks» in getD-past (map lock-of (s .rows)) l free (omega arith)
+  past-seven l h = let n = s .«eight_locks» in kept-past (s .rows) l (omega arith)
 
   pub waits-of : (core : ℕ) → waits (locks-of s) core ≡ waiting (does s core)
   waits-of core = waits-told (locks-of s) (does s) core past-seven (s .queued) (s .held)

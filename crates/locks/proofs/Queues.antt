@@ -12,8 +12,8 @@ use Rattle.std.specs.declared.option.Option.the-variants.{Some, None}
 use Rattle.std.proofs.shelf.Lists.{drop-more, drop-all, take-append-le}
 use Rattle.std.proofs.shelf.Tests.{false≢true}
 use Rattle.rules.specs.State.{Lock}
-use Rattle.rules.specs.Steps.{acquired-by, released-to}
-use Rattle.locks.specs.Rows.{granted, passed-to}
+use Rattle.rules.specs.Steps.{acquired-by}
+use Rattle.locks.specs.Rows.{granted}
 use Rattle.locks.specs.declared.grant.Grant.{Grant}
 use Rattle.locks.specs.declared.grant.Grant.the-variants.{Granted, Queued}
 
@@ -50,12 +50,7 @@ some-waiting (suc w) x xs l = let e : suc w - 1 ≡ w = omega arith in ap (λ (n
 counting : (w : ℕ) (xs : List ℕ) → 0 < w → length xs ≡ 7 → take w xs ≡ getD xs 0 0 ∷ take (w - 1) (behind xs)
 counting w xs l full = ap (λ (ys : List ℕ). take w ys) (seven xs full) ∙ some-waiting w (getD xs 0 0) (behind xs) l
 
-pub passed-first : (w : ℕ) (xs : List ℕ) → 0 < w → length xs ≡ 7 → Some (getD xs 0 0) ≡ passed-to (take w xs)
-passed-first w xs l full = sym (ap passed-to (counting w xs l full))
-
-pub passed-on : (w : ℕ) (xs : List ℕ) (core : ℕ) → 0 < w → w ≤ 7 → length xs ≡ 7 →
-    _≡_ {A = Lock} (record { holder = Some (getD xs 0 0); queue = take (w - 1) (behind xs ++ (0 ∷ [])); last = Some core })
-    (released-to (take w xs) core)
-passed-on w xs core l few full =
-    (λ i. record { holder = Some (getD xs 0 0); queue = take-append-le (w - 1) (behind xs) (0 ∷ []) (omega arith) i; last = Some core })
-    ∙ sym (ap (λ (q : List ℕ). released-to q core) (counting w xs l full))
+-- the first is taken out, and the others move one place to the front
+pub stepped-up : (w : ℕ) (xs : List ℕ) → 0 < w → w ≤ 7 → length xs ≡ 7 → take w xs ≡ getD xs 0 0 ∷ take (w - 1) (behind xs ++ (0 ∷ []))
+stepped-up w xs l few full =
+    counting w xs l full ∙ ap (λ (q : List ℕ). getD xs 0 0 ∷ q) (sym (take-append-le (w - 1) (behind xs) (0 ∷ []) (omega arith)))

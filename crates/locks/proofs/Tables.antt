@@ -3,10 +3,9 @@
 use mathlib.Core.List.{List, map}
 use mathlib.Core.Logic.{⊎-elim}
 use mathlib.Core.Path.{_≡_, refl, sym, ap, _∙_}
-use Prim.Native.Nat.{ℕ, _<_}
+use Prim.Native.Nat.{ℕ, _<_, _≤_}
 use lib.ListN.{length, getD, set}
-use Rattle.std.proofs.shelf.Lists.{getD-set-same, getD-set-other, map-set, getD-map, length-map, length-set}
-use Rattle.std.specs.Options.{isSome}
+use Rattle.std.proofs.shelf.Lists.{getD-set-same, getD-set-other, map-set, getD-map, getD-past, length-map, length-set}
 use Rattle.std.specs.declared.option.Option.{Option}
 use Rattle.rules.proofs.Tables.{upd-cases}
 use Rattle.rules.specs.State.{Lock, free}
@@ -28,6 +27,9 @@ kept rows lock = getD (map lock-of rows) lock free
 
 pub kept-row : (rows : List Row) (k : ℕ) (d : Row) → k < length rows → kept rows k ≡ lock-of (getD rows k d)
 kept-row rows k d l = getD-map lock-of rows k d free l
+
+pub kept-past : (rows : List Row) (k : ℕ) → length rows ≤ k → kept rows k ≡ free
+kept-past rows k l = getD-past (map lock-of rows) k free (rw length-map l)
 
 -- one row changed
 pub set-row : (rows : List Row) (k : ℕ) (row : Row) (new : Lock) → lock-of row ≡ new → map lock-of (set rows k row) ≡ set (map lock-of rows) k new
@@ -51,7 +53,7 @@ module _ (rows after : List Row) (lock : ℕ) (new : Lock) (within : lock < leng
   tied-lists f g cores core now b tied c l =
       ap (f c) (kept-at l) ∙ tied c l ∙ ap (λ (d : Attendance). g d l) (sym (set-upd cores core now Away b c))
 
--- whether a lock is held, as its row tells
-pub held-at : (rows : List Row) (k : ℕ) (row : Row) (holder : Option ℕ) → k < length rows → row ≡ getD rows k row → holder ≡ row .holder → isSome (kept rows k .holder) ≡ isSome holder
-held-at rows k row holder l e h =
-    ap (λ (x : Lock). isSome (x .holder)) (kept-row rows k row l) ∙ ap (λ (r : Row). isSome (r .holder)) (sym e) ∙ ap (λ (o : Option ℕ). isSome o) (sym h)
+-- a lock's holder, as its row tells
+pub holder-row : (rows : List Row) (k : ℕ) (row : Row) (holder : Option ℕ) → k < length rows → row ≡ getD rows k row → holder ≡ row .holder → holder ≡ kept rows k .holder
+holder-row rows k row holder l e h =
+    h ∙ ap (λ (r : Row). r .holder) e ∙ sym (ap (λ (x : Lock). x .holder) (kept-row rows k row l))

@@ -1,7 +1,8 @@
 //! What is done to one lock.
 ghost use Prim.Native.Nat.{_<_};
-ghost use lib.ListN.{length};
+ghost use lib.ListN.{length, getD};
 ghost use mathlib.Core.Bool.{true};
+ghost use mathlib.Core.List.{_∷_};
 ghost use mathlib.Core.Path.{_≡_};
 ghost use Rattle.std.specs.Options.{isSome};
 ghost use Rattle.rules.specs.State.{free};
@@ -60,11 +61,21 @@ impl Row {
             self.holder = None;
             return None;
         }
-        let [next, a, b, c, d, e, f] = self.queue;
-        self.queue = [a, b, c, d, e, f, 0];
-        self.waiting -= 1;
+        let next = self.queue[0];
+        self.step_up();
         self.holder = Some(next);
         Some(next)
+    }
+
+    // Takes the first in the queue out: the others move one place to the front.
+    fn step_up(&mut self)
+        requires { ⌜ 0 < now self .waiting ⌝ }
+        ensures queue { λ _. ⌜ lock-of (now (self .entry)) .queue ≡ getD (now (self .entry) .queue) 0 0 ∷ lock-of (now (self .exit)) .queue ⌝ }
+        ensures same { λ _. ⌜ now (self .exit) .last ≡ now (self .entry) .last ⌝ }
+    {
+        let [_, a, b, c, d, e, f] = self.queue;
+        self.queue = [a, b, c, d, e, f, 0];
+        self.waiting -= 1;
     }
 
     /// Forgets the last releaser.

@@ -12,6 +12,16 @@ ghost use Rattle.locks.specs.Rows.{lock-of, granted, passed-to};
 use super::Row;
 use crate::grant::Grant;
 
+/// The core that holds a lock, if any; there is no lock past the last.
+pub(crate) fn holder_at(rows: &[Row], lock: u8) -> Option<u8>
+    ensures { λ r. ⌜ r ≡ getD (map lock-of (now (rows .entry))) lock free .holder ⌝ }
+{
+    if lock as usize >= rows.len() {
+        return None;
+    }
+    rows[lock as usize].holder()
+}
+
 /// Gives a free lock to the core, or queues the core last.
 pub(crate) fn acquire_at(rows: &mut [Row], lock: u8, core: u8) -> Grant
     requires { ⌜ lock < length (now rows) ⌝ ∗ ⌜ (isSome (getD (map lock-of (now rows)) lock free .holder) ≡ true → length (getD (map lock-of (now rows)) lock free .queue) < 7) ⌝ }

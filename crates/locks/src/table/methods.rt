@@ -22,6 +22,7 @@ use crate::row::Row;
 use crate::row::several::acquire_at;
 use crate::row::several::any_held;
 use crate::row::several::forget_all;
+use crate::row::several::holder_at;
 use crate::row::several::release_at;
 use call::Refusal;
 
@@ -57,10 +58,7 @@ impl Locks {
     pub fn holds(&self, core: u8, lock: u8) -> bool
         ensures { λ r. ⌜ r ≡ holds (locks-of (now (self .entry))) core lock ⌝ }
     {
-        if lock >= 8 {
-            return false;
-        }
-        match self.rows[lock as usize].holder() {
+        match holder_at(&self.rows, lock) {
             Some(holder) => holder == core,
             None => false,
         }
