@@ -9,7 +9,7 @@ use crate::grant::Grant;
 
 impl Attendance {
     /// Whether the core waits for a lock.
-    pub fn is_waiting(self) -> bool
+    pub(crate) fn is_waiting(self) -> bool
         ensures { λ r. ⌜ r ≡ waiting self ⌝ }
     {
         match self {
@@ -19,7 +19,7 @@ impl Attendance {
     }
 
     /// Whether the core holds a lock.
-    pub fn is_holding(self) -> bool
+    pub(crate) fn is_holding(self) -> bool
         ensures { λ r. ⌜ r ≡ holding self ⌝ }
     {
         match self {
@@ -29,7 +29,7 @@ impl Attendance {
     }
 
     /// What a core does once its acquire of the lock is answered.
-    pub fn after(grant: Grant, lock: u8) -> Attendance
+    pub(crate) fn after(grant: Grant, lock: u8) -> Attendance
         ensures { λ r. ⌜ r ≡ attending grant lock ⌝ }
     {
         match grant {

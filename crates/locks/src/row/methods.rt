@@ -13,7 +13,7 @@ use crate::grant::Grant;
 
 impl Row {
     /// A lock that nobody holds and nobody has released.
-    pub fn free() -> Row
+    pub(crate) fn free() -> Row
         ensures { λ r. ⌜ lock-of r ≡ free ⌝ }
     {
         Row {
@@ -25,7 +25,7 @@ impl Row {
     }
 
     /// The core that holds the lock, if any.
-    pub fn holder(&self) -> Option<u8>
+    pub(crate) fn holder(&self) -> Option<u8>
         ensures { λ r. ⌜ r ≡ lock-of (now (self .entry)) .holder ⌝ }
     {
         let holder = self.holder;
@@ -33,7 +33,7 @@ impl Row {
     }
 
     /// Gives a free lock to the core, or queues the core last.
-    pub fn acquire(&mut self, core: u8) -> Grant
+    pub(crate) fn acquire(&mut self, core: u8) -> Grant
         requires { ⌜ (isSome (lock-of (now self) .holder) ≡ true → length (lock-of (now self) .queue) < 7) ⌝ }
         ensures answer { λ r. ⌜ r ≡ granted (lock-of (now (self .entry)) .holder) (lock-of (now (self .entry))) ⌝ }
         ensures after { λ _. ⌜ lock-of (now (self .exit)) ≡ acquired-by (lock-of (now (self .entry)) .holder) (lock-of (now (self .entry))) core ⌝ }
@@ -52,7 +52,7 @@ impl Row {
     }
 
     /// Passes the lock to the first in the queue, if there is one, and remembers who released it.
-    pub fn release(&mut self, core: u8) -> Option<u8>
+    pub(crate) fn release(&mut self, core: u8) -> Option<u8>
         ensures answer { λ r. ⌜ r ≡ passed-to (lock-of (now (self .entry)) .queue) ⌝ }
         ensures after { λ _. ⌜ lock-of (now (self .exit)) ≡ released-to (lock-of (now (self .entry)) .queue) core ⌝ }
     {
@@ -79,7 +79,7 @@ impl Row {
     }
 
     /// Forgets the last releaser.
-    pub fn forget(&mut self)
+    pub(crate) fn forget(&mut self)
         ensures { λ _. ⌜ lock-of (now (self .exit)) ≡ forgetting (lock-of (now (self .entry))) ⌝ }
     {
         self.last = None;
