@@ -11,10 +11,7 @@ use Rattle.rules.proofs.Tables.{upd-cases}
 use Rattle.rules.specs.State.{Lock, free}
 use Rattle.rules.specs.Tables.{upd}
 use Rattle.locks.specs.Rows.{lock-of}
-use Rattle.locks.specs.declared.attendance.Attendance.{Attendance}
-use Rattle.locks.specs.declared.attendance.Attendance.the-variants.{Away}
 use Rattle.locks.specs.declared.row.Row.{Row}
-use Rattle.locks.proofs.Ties.{Tied}
 
 -- a list changed at a place, at any index
 pub set-upd : {X : Type 0} (xs : List X) (k : ℕ) (x d : X) → k < length xs → (j : ℕ) → getD (set xs k x) j d ≡ upd (λ i. getD xs i d) k x j
@@ -45,13 +42,6 @@ module _ (rows after : List Row) (lock : ℕ) (new : Lock) (within : lock < leng
 
   pub kept-upd : kept after ≡ upd (kept rows) lock new
   kept-upd = λ i l. kept-at l i
-
-  -- facts that tie the tables tie the lists that they are kept in
-  pub tied-lists : {X : Type 0} (f : ℕ → Lock → X) (g : Attendance → ℕ → X) (cores : List Attendance) (core : ℕ) (now : Attendance) → core < length cores →
-      Tied f g (upd (kept rows) lock new) (upd (λ c. getD cores c Away) core now) →
-      Tied f g (kept after) (λ c. getD (set cores core now) c Away)
-  tied-lists f g cores core now b tied c l =
-      ap (f c) (kept-at l) ∙ tied c l ∙ ap (λ (d : Attendance). g d l) (sym (set-upd cores core now Away b c))
 
 -- a lock's holder, as its row tells
 pub holder-row : (rows : List Row) (k : ℕ) (row : Row) (holder : Option ℕ) → k < length rows → row ≡ getD rows k row → holder ≡ row .holder → holder ≡ kept rows k .holder
