@@ -1,0 +1,1 @@
+-- No definition of its own: the examples cite those of the page stores.
