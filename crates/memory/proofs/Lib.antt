@@ -1,1 +1,3 @@
 -- The lemmas of the memory.
+pub mod Owned
+pub mod Views

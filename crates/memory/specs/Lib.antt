@@ -1,2 +1,4 @@
 -- The definitions that the contracts of the memory cite.
 pub mod Entries
+pub mod Owners
+pub mod Views

@@ -1,0 +1,40 @@
+-- A memory as the rules see it: page, copies by core and slot, and owners. Assumes nothing.
+use mathlib.Core.Bool.{cond}
+use mathlib.Core.List.{List}
+use Prim.Native.Nat.{ℕ}
+use lib.Dec.{ltb}
+use lib.ListN.{getD, set}
+use Rattle.std.specs.declared.option.Option.{Option}
+use Rattle.std.specs.declared.option.Option.the-variants.{Some, None}
+use Rattle.word.specs.declared.word.Word.{Word}
+use Rattle.rules.specs.State.{Copy, invalid, Memory}
+use Rattle.memory.specs.Entries.{copy-in, empty}
+use Rattle.memory.specs.Owners.{seat}
+use Rattle.memory.specs.declared.entry.Done.{Done}
+use Rattle.memory.specs.declared.entry.Done.the-variants.{Kept, Dropped, Written, Taken as Lost}
+use Rattle.memory.specs.declared.entry.Entry.{Entry}
+
+-- each core's copies: a core has 64 slots, and there are as many cores as there are entries for
+unfoldable pub copies-of : List Entry → ℕ → ℕ → Copy
+copies-of entries core slot = cond (ltb slot 64) (copy-in (getD entries (seat core slot) empty)) invalid
+
+-- each word's owner: a word past the table has none
+unfoldable pub owners-of : List (Option ℕ) → ℕ → Option ℕ
+owners-of owners word = getD owners word None
+
+abbrev pub memory-of : List Word → List Entry → List (Option ℕ) → Memory
+memory-of page entries owners = record { page = page; copies = copies-of entries; owners = owners-of owners }
+
+-- what is on the page after an event: an entry that is due is written
+abbrev pub page-after : Done → Entry → List Word → List Word
+page-after Kept e page = page
+page-after Dropped e page = page
+page-after Written e page = set page (e .place) (e .word)
+page-after Lost e page = page
+
+-- who owns what after an event: an entry that counted no more has no owner
+abbrev pub owners-after : Done → Entry → List (Option ℕ) → List (Option ℕ)
+owners-after Kept e owners = owners
+owners-after Dropped e owners = owners
+owners-after Written e owners = set owners (e .place) None
+owners-after Lost e owners = set owners (e .place) None
