@@ -1,3 +1,5 @@
 -- The lemmas of the memory.
 pub mod Owned
 pub mod Views
+pub mod Pages
+pub mod Loads

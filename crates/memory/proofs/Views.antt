@@ -6,24 +6,28 @@ use mathlib.Core.Logic.{_≢_, ⊎-elim}
 use mathlib.Core.Path.{_≡_, refl, sym, _∙_, ap}
 use Prim.Native.Nat.{ℕ, _<_}
 use native.Mathlib.Omega.{arith}
-use lib.Dec.{eqb, ltb}
+use lib.Dec.{eqb, leb, ltb}
 use lib.ListN.{length, getD, set}
-use Rattle.std.proofs.shelf.Lists.{getD-set-same, getD-set-other, set-getD}
-use Rattle.std.proofs.shelf.Tests.{ltb-true, lt-ltb, cond-true, cond-false}
+use Rattle.std.proofs.shelf.Bits.{mod-below}
+use Rattle.std.proofs.shelf.Lists.{getD-set-same, getD-set-other, getD-default, set-getD}
+use Rattle.std.proofs.shelf.Tests.{ltb-true, lt-ltb, leb-true, eqb-true, and-parts, cond-true, cond-false, cond-both}
 use Rattle.std.specs.declared.option.Option.{Option}
 use Rattle.std.specs.declared.option.Option.the-variants.{Some, None}
 use Rattle.word.specs.declared.word.Word.{Word}
+use Rattle.call.specs.Figures.{Five, figures, slot-of}
+use Rattle.call.specs.declared.figures.Figures.{Figures}
 use Rattle.rules.specs.Effects.{write-back, write-back-by}
-use Rattle.rules.specs.State.{Copy, invalid, valid, registered, Memory}
+use Rattle.rules.specs.State.{Copy, invalid, valid, registered, Memory, of-word, copy-of}
 use Rattle.rules.specs.Tables.{upd, upd2}
 use Rattle.rules.proofs.Tables.{upd-cases, upd2-cases}
-use Rattle.memory.specs.Entries.{copy-in, copy-by, empty, turned, state-after, done-by}
-use Rattle.memory.specs.Owners.{seat}
-use Rattle.memory.specs.Views.{copies-of, owners-of, memory-of, page-after, owners-after}
+use Rattle.memory.specs.Entries.{copy-in, copy-by, empty, turned, state-after, done-by, is-written}
+use Rattle.memory.specs.Owners.{seat, is-registered}
+use Rattle.memory.specs.Views.{copies-of, owners-of, memory-of, page-after, owners-after, state-for}
 use Rattle.memory.specs.declared.entry.Entry.{Entry}
 use Rattle.memory.specs.declared.entry.Event.the-variants.{Settle}
 use Rattle.memory.specs.declared.entry.State.{State}
 use Rattle.memory.specs.declared.entry.State.the-variants.{Invalid, Valid, Registered}
+use Rattle.memory.proofs.Owned.{Sound}
 
 -- a core's copy is in its seat
 pub copies-at : (es : List Entry) (c i : ℕ) → i < 64 → copies-of es c i ≡ copy-in (getD es (seat c i) empty)
@@ -88,3 +92,38 @@ settled ps es os c i inside few fits =
         same-memory ps ps _ (copies-of es) (owners-of os) (owners-of os) refl (ap copies-of (left-same es (seat c i) Valid e)) refl
     go Registered e =
         same-memory _ _ _ _ _ _ refl (copies-set es c i (record { state = Valid; place = was .place; word = was .word }) inside few) (owners-set os (was .place) None fits)
+
+-- the same, of the lists that a turn leaves
+pub settled-after : (f : Five) (ps ps′ : List Word) (es es′ : List Entry) (os os′ : List (Option ℕ)) (c i : ℕ) → Sound f es os → c < 8 → i < 64 → ps′ ≡ page-after (done-by (getD es (seat c i) empty .state) Settle) (getD es (seat c i) empty) ps → es′ ≡ set es (seat c i) (turned (getD es (seat c i) empty) Settle) → os′ ≡ owners-after (done-by (getD es (seat c i) empty .state) Settle) (getD es (seat c i) empty) os → memory-of ps′ es′ os′ ≡ write-back (memory-of ps es os) c i
+settled-after f ps ps′ es es′ os os′ c i s few-c few-i a b d =
+    same-memory _ _ _ _ _ _ a (ap copies-of b) (ap owners-of d)
+    ∙ settled ps es os c i (omega (arith, s .caches)) few-i (omega (arith, s .words, ltb-true (getD es (seat c i) empty .place) 4096 (s .placed (seat c i))))
+
+pub settle-writes : (s : State) → is-written (done-by s Settle) ≡ is-registered s
+settle-writes Invalid = refl
+settle-writes Valid = refl
+settle-writes Registered = refl
+
+-- an entry looked at for a word
+pub copy-for : (w : ℕ) (e : Entry) → of-word w (copy-in e) ≡ copy-by (state-for w e) w (e .word)
+copy-for w e = go (e .state) (eqb (e .place) w) refl
+  where
+    go : (s : State) (b : Bool) → eqb (e .place) w ≡ b → of-word w (copy-by s (e .place) (e .word)) ≡ copy-by (cond (eqb (e .place) w) s Invalid) w (e .word)
+    go Invalid b h = ap (λ (s : State). copy-by s w (e .word)) (sym (cond-both (eqb (e .place) w) Invalid Invalid (λ s. s ≡ Invalid) (λ _. refl) (λ _. refl)))
+    go Valid true h = rw h (ap (λ (n : ℕ). valid n (e .word)) (eqb-true (e .place) w h))
+    go Valid false h = rw h refl
+    go Registered true h = rw h (ap (λ (n : ℕ). registered n (e .word)) (eqb-true (e .place) w h))
+    go Registered false h = rw h refl
+
+-- the copy of a word in a core's cache
+pub copy-found : (f : Five) (ps : List Word) (es : List Entry) (os : List (Option ℕ)) (c w at : ℕ) (d : Entry) (s : State) → slot-of f w < 64 → at ≡ seat c (slot-of f w) → at < length es → s ≡ state-for w (getD es at d) → copy-of f (memory-of ps es os) c w ≡ copy-by s w (getD es at d .word)
+copy-found f ps es os c w at d s few seated inside is =
+    ap (of-word w) (copies-at es c (slot-of f w) few ∙ ap copy-in (ap (λ (k : ℕ). getD es k empty) (sym seated) ∙ getD-default es at empty d inside))
+    ∙ (copy-for w (getD es at d) ∙ ap (λ (t : State). copy-by t w (getD es at d .word)) (sym is))
+
+-- a slot is one of 64
+pub slot-below : (f : Figures) (w : ℕ) → slot-of (figures f) w < 64
+slot-below f w =
+    let parts = and-parts (leb 1 (f .slots)) (leb (f .slots) 64) (f .«slots_pass») in
+    let some = leb-true 1 (f .slots) (parts .0) in
+    omega (arith, leb-true (f .slots) 64 (parts .1), mod-below w (f .slots) some)

@@ -1,4 +1,5 @@
 -- A cache entry as a copy of the rules, and the table of what an event does to an entry. Assumes nothing.
+use mathlib.Core.Bool.{Bool, true, false}
 use Prim.Native.Nat.{ℕ}
 use Rattle.word.specs.declared.word.Word.{Word}
 use Rattle.rules.specs.State.{Copy, invalid, valid, registered, blank}
@@ -52,3 +53,10 @@ done-by Registered Settle = Written
 done-by Registered Evict = Written
 done-by Registered Taken = Lost
 done-by Registered Fade = Kept
+
+-- whether the word is due on the page
+abbrev pub is-written : Done → Bool
+is-written Kept = false
+is-written Dropped = false
+is-written Written = true
+is-written Lost = false

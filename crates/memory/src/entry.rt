@@ -1,6 +1,9 @@
 //! A cache entry and the table of what happens to it: one row for each state and event.
+ghost use lib.Dec.{eqb};
+ghost use mathlib.Core.Bool.{cond};
 ghost use mathlib.Core.Path.{_≡_};
-ghost use Rattle.memory.specs.Entries.{turned, done-by};
+ghost use Rattle.memory.specs.Entries.{turned, done-by, is-written};
+ghost use Rattle.memory.specs.declared.entry.State.the-variants.{Invalid};
 use word::Word;
 
 /// Whether an entry holds a copy: none, one that may be read, or the one that counts, whose core owns the word.
@@ -37,6 +40,20 @@ pub enum Done {
     Taken,
 }
 
+impl Done {
+    /// Whether the word is due on the page.
+    pub fn is_written(self) -> bool
+        ensures { λ r. ⌜ r ≡ is-written self ⌝ }
+    {
+        match self {
+            Done::Written => true,
+            Done::Kept => false,
+            Done::Dropped => false,
+            Done::Taken => false,
+        }
+    }
+}
+
 /// An entry: its state, and the word that it holds with the word's place on the page. Of an invalid entry both say nothing.
 #[derive(Clone, Copy)]
 pub struct Entry {
@@ -61,6 +78,17 @@ impl Entry {
             (State::Registered, Event::Evict) => self.leave(State::Invalid, Done::Written),
             (State::Registered, Event::Taken) => self.leave(State::Invalid, Done::Taken),
             (State::Registered, Event::Fade) => Done::Kept,
+        }
+    }
+
+    /// The state of a word's copy, if the entry is looked at for that word: an entry of another word is invalid.
+    pub fn state_for(&self, word: u16) -> State
+        ensures { λ r. ⌜ r ≡ cond (eqb (now (self .entry) .place) word) (now (self .entry) .state) Invalid ⌝ }
+    {
+        if self.place == word {
+            self.state
+        } else {
+            State::Invalid
         }
     }
 

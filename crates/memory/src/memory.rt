@@ -12,6 +12,8 @@ ghost use Rattle.memory.specs.Owners.{holds};
 use crate::entry::Entry;
 use call::Figures;
 
+pub mod loads;
+pub mod places;
 pub mod turns;
 
 /// A page, the entries of eight cores' caches, 64 each, core by core, and the owner of each word. An owner's own entry

@@ -2,8 +2,11 @@
 ghost use Prim.Native.Nat.{_<_};
 ghost use lib.ListN.{length, getD, set};
 ghost use mathlib.Core.Path.{_≡_};
+ghost use Rattle.rules.specs.Effects.{write-back};
 ghost use Rattle.memory.specs.Entries.{empty, turned, done-by};
-ghost use Rattle.memory.specs.Views.{page-after, owners-after};
+ghost use Rattle.memory.specs.Owners.{seat, is-registered};
+ghost use Rattle.memory.specs.Views.{view, page-after, owners-after};
+ghost use Rattle.memory.specs.declared.entry.Event.the-variants.{Settle};
 use super::Memory;
 use crate::entry::Done;
 use crate::entry::Entry;
@@ -52,7 +55,7 @@ fn turn_all<P: PageStore>(
 
 impl<P: PageStore> Memory<P> {
     // An event at an entry of this memory.
-    fn turn_at(&mut self, at: usize, event: Event) -> Done
+    pub(super) fn turn_at(&mut self, at: usize, event: Event) -> Done
         requires { ⌜ at < 512 ⌝ }
         ensures figures { λ _. ⌜ now (self .exit) .figures ≡ now (self .entry) .figures ⌝ }
         ensures entries { λ _. ⌜ now (self .exit) .entries ≡ set (now (self .entry) .entries) at (turned (getD (now (self .entry) .entries) at empty) event) ⌝ }
@@ -67,5 +70,18 @@ impl<P: PageStore> Memory<P> {
             at,
             event,
         )
+    }
+
+    // A slot's registered copy is written to the page, loses its owner and becomes valid; any other copy stays. Whether
+    // there was one.
+    pub(super) fn write_back(&mut self, core: u8, slot: u8) -> bool
+        requires { ⌜ core < 8 ⌝ ∗ ⌜ slot < 64 ⌝ }
+        ensures figures { λ _. ⌜ now (self .exit) .figures ≡ now (self .entry) .figures ⌝ }
+        ensures entries { λ _. ⌜ now (self .exit) .entries ≡ set (now (self .entry) .entries) (seat core slot) (turned (getD (now (self .entry) .entries) (seat core slot) empty) Settle) ⌝ }
+        ensures after { λ _. ⌜ view words (now (self .exit)) ≡ write-back (view words (now (self .entry))) core slot ⌝ }
+        ensures answer { λ r. ⌜ r ≡ is-registered (getD (now (self .entry) .entries) (seat core slot) empty .state) ⌝ }
+    {
+        let at = core as usize * 64 + slot as usize;
+        self.turn_at(at, Event::Settle).is_written()
     }
 }
