@@ -3,3 +3,4 @@ pub mod Owned
 pub mod Views
 pub mod Pages
 pub mod Loads
+pub mod Stores

@@ -9,11 +9,12 @@ use Rattle.std.specs.declared.option.Option.the-variants.{Some, None}
 use Rattle.word.specs.declared.word.Word.{Word}
 use Rattle.call.specs.Figures.{Five, figures, slot-of}
 use Rattle.rules.specs.State.{Copy, invalid, Memory, blank}
-use Rattle.memory.specs.Entries.{copy-in, empty}
+use Rattle.memory.specs.Entries.{copy-in, empty, turned}
 use Rattle.memory.specs.Owners.{seat}
 use Rattle.memory.specs.declared.entry.Done.{Done}
 use Rattle.memory.specs.declared.entry.Done.the-variants.{Kept, Dropped, Written, Taken as Lost}
 use Rattle.memory.specs.declared.entry.Entry.{Entry}
+use Rattle.memory.specs.declared.entry.Event.the-variants.{Taken}
 use Rattle.memory.specs.declared.entry.State.{State}
 use Rattle.memory.specs.declared.entry.State.the-variants.{Invalid}
 use Rattle.memory.specs.declared.memory.Memory.{Memory as Tables}
@@ -64,3 +65,9 @@ word-by (Some owner) f page entries word = getD entries (seat owner (slot-of f w
 abbrev pub source-by : Option ℕ → ℕ
 source-by None = 1
 source-by (Some owner) = 2
+
+-- the entries once a word is taken from its owner, if it has one
+abbrev pub taken-by : Option ℕ → Five → List Entry → ℕ → List Entry
+taken-by None f entries word = entries
+taken-by (Some owner) f entries word =
+    set entries (seat owner (slot-of f word)) (turned (getD entries (seat owner (slot-of f word)) empty) Taken)

@@ -14,6 +14,7 @@ use call::Figures;
 
 pub mod loads;
 pub mod places;
+pub mod stores;
 pub mod turns;
 
 /// A page, the entries of eight cores' caches, 64 each, core by core, and the owner of each word. An owner's own entry
