@@ -4,3 +4,5 @@ pub mod Views
 pub mod Pages
 pub mod Loads
 pub mod Stores
+pub mod Walks
+pub mod Settles

@@ -4,7 +4,7 @@ use mathlib.Core.Bool.{Bool, true, false, cond}
 use mathlib.Core.List.{List}
 use mathlib.Core.Logic.{_≢_, ⊎-elim}
 use mathlib.Core.Path.{_≡_, refl, sym, _∙_, ap}
-use Prim.Native.Nat.{ℕ, _<_}
+use Prim.Native.Nat.{ℕ, _<_, _≤_}
 use native.Mathlib.Omega.{arith}
 use lib.Dec.{eqb, leb, ltb}
 use lib.ListN.{length, getD, set}
@@ -120,6 +120,13 @@ pub copy-found : (f : Five) (ps : List Word) (es : List Entry) (os : List (Optio
 copy-found f ps es os c w at d s few seated inside is =
     ap (of-word w) (copies-at es c (slot-of f w) few ∙ ap copy-in (ap (λ (k : ℕ). getD es k empty) (sym seated) ∙ getD-default es at empty d inside))
     ∙ (copy-for w (getD es at d) ∙ ap (λ (t : State). copy-by t w (getD es at d .word)) (sym is))
+
+-- checked figures have 64 slots and 8 cores at most
+pub slots-most : (f : Figures) → figures f .slots ≤ 64
+slots-most f = leb-true (f .slots) 64 (and-parts (leb 1 (f .slots)) (leb (f .slots) 64) (f .«slots_pass») .1)
+
+pub cores-most : (f : Figures) → figures f .cores ≤ 8
+cores-most f = leb-true (f .cores) 8 (and-parts (leb 1 (f .cores)) (leb (f .cores) 8) (f .«cores_pass») .1)
 
 -- a slot is one of 64
 pub slot-below : (f : Figures) (w : ℕ) → slot-of (figures f) w < 64

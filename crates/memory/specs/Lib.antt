@@ -2,3 +2,4 @@
 pub mod Entries
 pub mod Owners
 pub mod Views
+pub mod Walks

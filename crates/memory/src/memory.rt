@@ -14,6 +14,7 @@ use call::Figures;
 
 pub mod loads;
 pub mod places;
+pub mod settles;
 pub mod stores;
 pub mod turns;
 
