@@ -6,3 +6,5 @@ pub mod Loads
 pub mod Stores
 pub mod Walks
 pub mod Settles
+pub mod Modes
+pub mod Fades

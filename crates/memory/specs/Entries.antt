@@ -60,3 +60,10 @@ is-written Kept = false
 is-written Dropped = false
 is-written Written = true
 is-written Lost = false
+
+-- whether a copy that did not count is gone
+abbrev pub is-dropped : Done → Bool
+is-dropped Kept = false
+is-dropped Dropped = true
+is-dropped Written = false
+is-dropped Lost = false

@@ -3,3 +3,4 @@ pub mod Entries
 pub mod Owners
 pub mod Views
 pub mod Walks
+pub mod Modes

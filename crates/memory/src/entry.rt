@@ -2,7 +2,7 @@
 ghost use lib.Dec.{eqb};
 ghost use mathlib.Core.Bool.{cond};
 ghost use mathlib.Core.Path.{_≡_};
-ghost use Rattle.memory.specs.Entries.{turned, done-by, is-written};
+ghost use Rattle.memory.specs.Entries.{turned, done-by, is-written, is-dropped};
 ghost use Rattle.memory.specs.declared.entry.State.the-variants.{Invalid};
 use word::Word;
 
@@ -49,6 +49,18 @@ impl Done {
             Done::Written => true,
             Done::Kept => false,
             Done::Dropped => false,
+            Done::Taken => false,
+        }
+    }
+
+    /// Whether a copy that did not count is gone.
+    pub fn is_dropped(self) -> bool
+        ensures { λ r. ⌜ r ≡ is-dropped self ⌝ }
+    {
+        match self {
+            Done::Dropped => true,
+            Done::Kept => false,
+            Done::Written => false,
             Done::Taken => false,
         }
     }

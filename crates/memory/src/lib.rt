@@ -4,6 +4,7 @@
 pub mod bounds;
 pub mod entry;
 pub mod memory;
+pub mod mode;
 
 pub use bounds::Core;
 pub use bounds::Place;
@@ -12,3 +13,5 @@ pub use entry::Entry;
 pub use entry::Event;
 pub use entry::State;
 pub use memory::Memory;
+pub use mode::Mode;
+pub use mode::mode_of;

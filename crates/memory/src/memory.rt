@@ -12,6 +12,7 @@ ghost use Rattle.memory.specs.Owners.{holds};
 use crate::entry::Entry;
 use call::Figures;
 
+pub mod fades;
 pub mod loads;
 pub mod places;
 pub mod settles;
