@@ -8,3 +8,4 @@ pub mod Walks
 pub mod Settles
 pub mod Modes
 pub mod Fades
+pub mod Opens

@@ -14,7 +14,9 @@ use call::Figures;
 
 pub mod fades;
 pub mod loads;
+pub mod opens;
 pub mod places;
+pub mod questions;
 pub mod settles;
 pub mod stores;
 pub mod turns;

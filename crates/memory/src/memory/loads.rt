@@ -21,7 +21,7 @@ use word::Mark;
 use word::Word;
 
 // The word with value 0 and a blank mark.
-fn blank_word() -> Word
+pub(super) fn blank_word() -> Word
     ensures { λ r. ⌜ r ≡ blank ⌝ }
 {
     Word {
@@ -31,7 +31,7 @@ fn blank_word() -> Word
 }
 
 // The page's word at a place; past the page's end it reads as a blank word.
-fn page_word<P: PageStore>(page: &mut P, word: u16) -> Word
+pub(super) fn page_word<P: PageStore>(page: &mut P, word: u16) -> Word
     ensures answer { λ r. ⌜ r ≡ getD (words (now (page .entry))) word blank ⌝ }
     ensures same { λ _. ⌜ words (now (page .exit)) ≡ words (now (page .entry)) ⌝ }
 {
