@@ -31,8 +31,8 @@ impl Core {
         }
     }
 
-    /// Its number.
-    pub fn number(self) -> u8
+    // Its number.
+    pub(crate) fn number(self) -> u8
         ensures { λ r. ⌜ r ≡ self .number ⌝ }
     {
         let number = self.number;
@@ -52,8 +52,8 @@ impl Place {
         }
     }
 
-    /// Its number.
-    pub fn number(self) -> u16
+    // Its number.
+    pub(crate) fn number(self) -> u16
         ensures { λ r. ⌜ r ≡ self .number ⌝ }
     {
         let number = self.number;

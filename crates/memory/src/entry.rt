@@ -41,8 +41,8 @@ pub enum Done {
 }
 
 impl Done {
-    /// Whether the word is due on the page.
-    pub fn is_written(self) -> bool
+    // Whether the word is due on the page.
+    pub(crate) fn is_written(self) -> bool
         ensures { λ r. ⌜ r ≡ is-written self ⌝ }
     {
         match self {
@@ -53,8 +53,8 @@ impl Done {
         }
     }
 
-    /// Whether a copy that did not count is gone.
-    pub fn is_dropped(self) -> bool
+    // Whether a copy that did not count is gone.
+    pub(crate) fn is_dropped(self) -> bool
         ensures { λ r. ⌜ r ≡ is-dropped self ⌝ }
     {
         match self {
@@ -75,8 +75,8 @@ pub struct Entry {
 }
 
 impl Entry {
-    /// What an event does to the entry, by its state.
-    pub fn turn(&mut self, event: Event) -> Done
+    // What an event does to the entry, by its state.
+    pub(crate) fn turn(&mut self, event: Event) -> Done
         ensures after { λ _. ⌜ now (self .exit) ≡ turned (now (self .entry)) event ⌝ }
         ensures answer { λ r. ⌜ r ≡ done-by (now (self .entry) .state) event ⌝ }
     {
@@ -93,8 +93,8 @@ impl Entry {
         }
     }
 
-    /// The state of a word's copy, if the entry is looked at for that word: an entry of another word is invalid.
-    pub fn state_for(&self, word: u16) -> State
+    // The state of a word's copy, if the entry is looked at for that word: an entry of another word is invalid.
+    pub(crate) fn state_for(&self, word: u16) -> State
         ensures { λ r. ⌜ r ≡ cond (eqb (now (self .entry) .place) word) (now (self .entry) .state) Invalid ⌝ }
     {
         if self.place == word {

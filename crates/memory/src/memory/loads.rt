@@ -52,7 +52,7 @@ impl<P: PageStore> Memory<P> {
         ensures owners { λ _. ⌜ now (self .exit) .owners ≡ now (self .entry) .owners ⌝ }
         ensures page { λ _. ⌜ words (now (self .exit) .page) ≡ words (now (self .entry) .page) ⌝ }
     {
-        match self.owners[word as usize] {
+        match self.owner_at(word) {
             Some(owner) => (self.entries[self.seat(owner, word)].word, 2),
             None => (page_word(&mut self.page, word), 1),
         }

@@ -1,6 +1,8 @@
 //! Where a word's copy stands in a core's cache, and what stands there.
 ghost use Prim.Native.Nat.{_<_};
+ghost use lib.ListN.{getD};
 ghost use mathlib.Core.Path.{_≡_};
+ghost use Rattle.std.specs.declared.option.Option.the-variants.{None};
 ghost use Rattle.call.specs.Figures.{slot-of};
 ghost use Rattle.rules.specs.State.{copy-of};
 ghost use Rattle.memory.specs.Entries.{copy-by};
@@ -27,6 +29,14 @@ impl<P: PageStore> Memory<P> {
         ensures within { λ r. ⌜ r < 512 ⌝ }
     {
         core as usize * 64 + self.slot(word) as usize
+    }
+
+    // The owner of a word, if it has one.
+    pub(super) fn owner_at(&self, word: u16) -> Option<u8>
+        requires { ⌜ word < 4096 ⌝ }
+        ensures { λ r. ⌜ r ≡ getD (now (self .entry) .owners) word None ⌝ }
+    {
+        self.owners[word as usize]
     }
 
     // The copy of a word in a core's cache: its state, and the word that it holds.

@@ -36,7 +36,7 @@ impl<P: PageStore> Memory<P> {
         ensures { λ r. ⌜ r ≡ view words (now (self .entry)) .owners word ⌝ }
     {
         if word < 4_096 {
-            self.owners[word as usize]
+            self.owner_at(word)
         } else {
             None
         }

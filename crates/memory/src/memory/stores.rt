@@ -61,7 +61,7 @@ impl<P: PageStore> Memory<P> {
         ensures owners { λ _. ⌜ now (self .exit) .owners ≡ set (now (self .entry) .owners) word None ⌝ }
         ensures page { λ _. ⌜ words (now (self .exit) .page) ≡ words (now (self .entry) .page) ⌝ }
     {
-        match self.owners[word as usize] {
+        match self.owner_at(word) {
             None => 1,
             Some(owner) => {
                 let at = self.seat(owner, word);
