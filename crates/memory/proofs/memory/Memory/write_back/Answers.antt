@@ -1,0 +1,22 @@
+use mathlib.Core.Path.{_∙_, ap, sym}
+use Rattle.call.specs.Figures.{figures}
+use Rattle.memory.specs.Entries.{is-written}
+use Rattle.memory.proofs.Views.{settled-after, settle-writes}
+use Rattle.memory.proofs.memory.Memory.write_back.Needs as need
+
+pub returns : need.returns
+returns g c =
+    let m = c .args .self .now in
+    let t = c .turn-at .ensures in
+    record {
+      figures = t .figures;
+      entries = t .entries;
+      after =
+          settled-after (figures (m .figures)) (g .P·PageStore .words (m .page)) _ (m .entries) _ (m .owners) _ (c .args .core) (c .args .slot) (record { caches = m .caches; words = m .words; placed = m .placed; owned = m .owned })
+          (c .pre .0)
+          (c .pre .1)
+          (t .page)
+          (t .entries)
+          (t .owners);
+      answer = c .is-written .ensures ∙ (ap is-written (t .answer) ∙ settle-writes _);
+    }
