@@ -14,7 +14,8 @@ use Rattle.std.specs.declared.option.Option.the-variants.{Some, None}
 use Rattle.word.specs.declared.word.Word.{Word}
 use Rattle.call.specs.Figures.{Five, slot-of}
 use Rattle.rules.specs.Effects.{Got, write-back, fetch, fetch-by, fetch-into, filled, word-in, with-copy}
-use Rattle.rules.specs.State.{Copy, invalid, valid, registered, Memory, of-word, copy-of, page-word, blank}
+use Rattle.rules.specs.State.{Copy, invalid, valid, registered, Memory, of-word, copy-of, page-word}
+use Rattle.word.specs.Words.{blank-word}
 use Rattle.memory.specs.Entries.{copy-in, copy-by, empty, turned, state-after}
 use Rattle.memory.specs.Owners.{seat, is-registered, counts-for, holds}
 use Rattle.memory.specs.Views.{copies-of, owners-of, memory-of, word-by, source-by}

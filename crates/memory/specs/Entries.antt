@@ -2,7 +2,8 @@
 use mathlib.Core.Bool.{Bool, true, false}
 use Prim.Native.Nat.{ℕ}
 use Rattle.word.specs.declared.word.Word.{Word}
-use Rattle.rules.specs.State.{Copy, invalid, valid, registered, blank}
+use Rattle.rules.specs.State.{Copy, invalid, valid, registered}
+use Rattle.word.specs.Words.{blank-word}
 use Rattle.memory.specs.declared.entry.State.{State}
 use Rattle.memory.specs.declared.entry.State.the-variants.{Invalid, Valid, Registered}
 use Rattle.memory.specs.declared.entry.Event.{Event}
@@ -23,7 +24,7 @@ copy-in e = copy-by (e .state) (e .place) (e .word)
 
 -- an entry that holds nothing
 abbrev pub empty : Entry
-empty = record { state = Invalid; place = 0; word = blank }
+empty = record { state = Invalid; place = 0; word = blank-word }
 
 -- the state that an event leaves: what counts is written and stays readable when it is settled, and goes when its core gives it
 -- up or another core stores the word; what does not count goes but at a settle

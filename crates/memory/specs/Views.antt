@@ -8,7 +8,8 @@ use Rattle.std.specs.declared.option.Option.{Option}
 use Rattle.std.specs.declared.option.Option.the-variants.{Some, None}
 use Rattle.word.specs.declared.word.Word.{Word}
 use Rattle.call.specs.Figures.{Five, figures, slot-of}
-use Rattle.rules.specs.State.{Copy, invalid, Memory, blank}
+use Rattle.rules.specs.State.{Copy, invalid, Memory}
+use Rattle.word.specs.Words.{blank-word}
 use Rattle.memory.specs.Entries.{copy-in, empty, turned}
 use Rattle.memory.specs.Owners.{seat}
 use Rattle.memory.specs.declared.entry.Done.{Done}
@@ -58,7 +59,7 @@ state-for word e = cond (eqb (e .place) word) (e .state) Invalid
 
 -- a word as its owner has it or, without an owner, as it is on the page
 abbrev pub word-by : Option ℕ → Five → List Word → List Entry → ℕ → Word
-word-by None f page entries word = getD page word blank
+word-by None f page entries word = getD page word blank-word
 word-by (Some owner) f page entries word = getD entries (seat owner (slot-of f word)) empty .word
 
 -- where that word comes from: 1 the page, 2 the owner's copy

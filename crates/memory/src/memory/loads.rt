@@ -6,7 +6,7 @@ ghost use mathlib.Core.Path.{_≡_};
 ghost use Rattle.std.specs.declared.option.Option.the-variants.{None};
 ghost use Rattle.call.specs.Figures.{slot-of};
 ghost use Rattle.rules.specs.Effects.{load as rule, fetch as fetched};
-ghost use Rattle.rules.specs.State.{blank};
+ghost use Rattle.word.specs.Words.{blank-word};
 ghost use Rattle.memory.specs.Entries.{empty};
 ghost use Rattle.memory.specs.Owners.{seat, is-registered};
 ghost use Rattle.memory.specs.Views.{view, five-of, word-by, source-by};
@@ -22,7 +22,7 @@ use word::Word;
 
 // The word with value 0 and a blank mark.
 pub(super) fn blank_word() -> Word
-    ensures { λ r. ⌜ r ≡ blank ⌝ }
+    ensures { λ r. ⌜ r ≡ blank-word ⌝ }
 {
     Word {
         value: 0,
@@ -32,7 +32,7 @@ pub(super) fn blank_word() -> Word
 
 // The page's word at a place; past the page's end it reads as a blank word.
 pub(super) fn page_word<P: PageStore>(page: &mut P, word: u16) -> Word
-    ensures answer { λ r. ⌜ r ≡ getD (words (now (page .entry))) word blank ⌝ }
+    ensures answer { λ r. ⌜ r ≡ getD (words (now (page .entry))) word blank-word ⌝ }
     ensures same { λ _. ⌜ words (now (page .exit)) ≡ words (now (page .entry)) ⌝ }
 {
     match page.read(word) {

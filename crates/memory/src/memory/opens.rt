@@ -4,7 +4,8 @@ ghost use lib.ListN.{length, getD, set, replicate};
 ghost use mathlib.Core.Path.{_≡_};
 ghost use Rattle.std.specs.declared.option.Option.the-variants.{None};
 ghost use Rattle.call.specs.Figures.{figures as numbers};
-ghost use Rattle.rules.specs.State.{blank, unmarked, opened, size-of, empty-caches};
+ghost use Rattle.rules.specs.State.{unmarked, opened, size-of, empty-caches};
+ghost use Rattle.word.specs.Words.{blank-word};
 ghost use Rattle.memory.specs.Entries.{empty};
 ghost use Rattle.memory.specs.Views.{view};
 use super::Memory;
@@ -48,7 +49,7 @@ fn without_mark(x: Word) -> Word
 
 // The word at a place loses its mark. The place is below the page's size, so the write is done and its answer may be let go.
 fn unmark_at<P: PageStore>(page: &mut P, word: u16)
-    ensures { λ _. ⌜ words (now (page .exit)) ≡ set (words (now (page .entry))) word (unmarked (getD (words (now (page .entry))) word blank)) ⌝ }
+    ensures { λ _. ⌜ words (now (page .exit)) ≡ set (words (now (page .entry))) word (unmarked (getD (words (now (page .entry))) word blank-word)) ⌝ }
 {
     let old = page_word(page, word);
     let _ = page.write(word, without_mark(old));
