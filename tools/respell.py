@@ -25,15 +25,18 @@ OWN = {
     "strip-pass": "passes_strip",
     "allowance-pass": "passes_allowance",
     "bit-or": "bit_of_or",
+    "Numbers-of": "numbers_of",
 }
-# Names that Rattle makes, although a file of lemmas could define one alike.
-MADE = re.compile(r"^(returns|loop|invariant|decreases|overflow|bounds|slice-bounds|in|out|after|if)-")
-SIGNATURE = re.compile(r"^(\s*)(?:(?:abbrev|unfoldable|pub|opaque) )*([^\s(){}:,.;«»\"|]+)((?: \([^)]*\)| \{[^}]*\})*) :(?: |$)", re.M)
-HEAD = re.compile(r"^\s*(?:pub )?(?:record|data) ([^\s(){}:,.;«»\"|]+)((?: \([^)]*\)| \{[^}]*\})*)", re.M)
+# In an answer, names that Rattle makes.
+MADE = re.compile(r"^(returns|loop|invariant|invariant_of|decreases|overflow|bounds|slice-bounds|slice_bounds|in|out|after|if|then|else)-")
+SIGNATURE = re.compile(r"^([ \t]*)(?:(?:abbrev|unfoldable|pub|opaque) )*([^\s(){}:,.;«»\"|]+)((?: \([^)]*\)| \{[^}]*\})*) :(?: |$)", re.M)
+HEAD = re.compile(r"^[ \t]*(?:pub )?(?:record|data) ([^\s(){}:,.;«»\"|]+)((?: \([^)]*\)| \{[^}]*\})*)", re.M)
 BINDER = re.compile(r"[({]([^(){}:=]+) : ")
 LOCAL = re.compile(r"\blet ([^\s:=(){}]+)")
 LAMBDA = re.compile(r"λ ((?:[^\s(){}.:]+ )*[^\s(){}.:]+)\.")
-CASE = re.compile(r"^\s*(?:pub )?\| ([^\s(){}:,.;«»\"|]+)", re.M)
+CASE = re.compile(r"^[ \t]*(?:pub )?\| ([^\s(){}:,.;«»\"|]+)", re.M)
+ALIAS = re.compile(r"^[ \t]*(?:ghost )?(?:pub )?use .*$", re.M)
+AS = re.compile(r" as ([^\s(){}:,.;«»\"|]+)")
 WORD = re.compile(r"[^\s(){}\[\].,;:«»\"`|λ/*+]+")
 
 
@@ -51,28 +54,31 @@ def without_comments(text):
     return re.sub(r"(?m)(^|\s)--(\s.*)?$", r"\1", text)
 
 
+def dashed(name):
+    return "-" in name.strip("-") and re.match(r"^[^\W\d]", name)
+
+
 def defined():
     """Each name with a dash that the repository defines."""
     names = set()
     for p in files():
         with open(p, encoding="utf-8") as f:
             t = without_comments(f.read())
+        found = set()
         for m in SIGNATURE.finditer(t):
             if not (is_answer(p) and m.group(1) == ""):
-                names.add(m.group(2))
-            for b in BINDER.finditer(m.group(3) or ""):
-                names.update(b.group(1).split())
-        for m in HEAD.finditer(t):
-            names.add(m.group(1))
-        for m in CASE.finditer(t):
-            names.add(m.group(1))
-        for m in BINDER.finditer(t):
-            names.update(m.group(1).split())
-        for m in LOCAL.finditer(t):
-            names.add(m.group(1))
-        for m in LAMBDA.finditer(t):
-            names.update(m.group(1).split())
-    return {n for n in names if "-" in n.strip("-") and re.match(r"^[^\W\d]", n) and not MADE.match(n) and not n.endswith("-requires")}
+                found.add(m.group(2))
+        for pattern in (HEAD, CASE, LOCAL):
+            found.update(m.group(1) for m in pattern.finditer(t))
+        for pattern in (BINDER, LAMBDA):
+            for m in pattern.finditer(t):
+                found.update(m.group(1).split())
+        names.update(n for n in found if dashed(n) and not (is_answer(p) and MADE.match(n)))
+    for p in list(files()) + sorted(glob.glob("crates/*/src/**/*.rt", recursive=True)):
+        with open(p, encoding="utf-8") as f:
+            for line in ALIAS.findall(f.read()):
+                names.update(n for n in AS.findall(line) if dashed(n) and not (is_answer(p) and MADE.match(n)))
+    return names
 
 
 def respelled(name):
@@ -83,22 +89,22 @@ def respelled(name):
     return name.replace("-", "_")
 
 
-def turn_words(text, names):
-    """The text with each of the names respelled, but for those that Rattle makes: what stands in the context `c` or in the module of goals."""
+def turn_words(text, names, answer=False):
+    """The text with each of the names respelled; in an answer not what stands in the context `c` or in the module of goals."""
 
     def turn(m):
         w = m.group(0)
         if w not in names:
             return w
         before = text[: m.start()]
-        if re.search(r"(?<![\w'.-])(c|goal)\.$", before[-8:]):
+        if answer and re.search(r"(?<![\w'.-])(c|goal)\.$", before[-8:]):
             return w
         return names[w]
 
     return WORD.sub(turn, text)
 
 
-def turn_code(text, names, comment):
+def turn_code(text, names, comment, answer):
     """Source: what is no comment, no string; in comments what stands between backticks."""
     out = []
     for line in text.split("\n"):
@@ -108,7 +114,7 @@ def turn_code(text, names, comment):
         m = re.search(comment, line)
         code, rest = (line[: m.start()], line[m.start():]) if m else (line, "")
         parts = re.split(r'("(?:[^"\\]|\\.)*")', code)
-        code = "".join(s if i % 2 else turn_words(s, names) for i, s in enumerate(parts))
+        code = "".join(s if i % 2 else turn_words(s, names, answer) for i, s in enumerate(parts))
         out.append(code + turn_ticks(rest, names))
     return "\n".join(out)
 
@@ -149,7 +155,7 @@ def main():
         elif comment == "ticks":
             new = turn_ticks(old, names)
         else:
-            new = turn_code(old, names, comment)
+            new = turn_code(old, names, comment, is_answer(p))
         if new != old:
             turned += 1
             if not dry:

@@ -1,5 +1,6 @@
 //! The vocabulary of the board: its figures, the calls, their answers and refusals, and the faults of a job. Every
 //! other crate speaks in these types; nothing here knows of pages, signatures, caches or laws.
+#![tactic(auto)]
 
 pub mod answer;
 pub mod call;

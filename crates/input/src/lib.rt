@@ -1,4 +1,6 @@
 //! How the programs read a job: as many bytes of the input as a buffer holds.
+#![tactic(auto)]
+
 ghost use Rattle.std.specs.Prelude.{◌≤◌, length, IfOk};
 
 use std::io;

@@ -1,5 +1,7 @@
 //! Reads a job from standard input, at most 65,536 bytes, and prints it in plain words: its figures on a line and then a line
 //! for each call, or the one line of its first fault.
+#![tactic(auto)]
+
 ghost use Rattle.std.specs.Prelude.{◌≤◌, length, IfOk};
 
 use listing::job_text;

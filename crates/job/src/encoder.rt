@@ -2,7 +2,7 @@
 ghost use Rattle.std.specs.Prelude.{◌≡◌, ◌+◌, ◌*◌, ◌≤◌, true, ◌++◌, length, take, drop, if◌then◌else◌, Some, None, Ok, OnSome};
 ghost use Rattle.std.specs.List.{flat_map, AllByRecursion as All};
 ghost use Rattle.call.specs.Calls.{caller_of, kind_of, letter_of};
-ghost use Rattle.call.specs.Figures.{figures as Numbers-of};
+ghost use Rattle.call.specs.Figures.{figures as numbers_of};
 ghost use Rattle.job.specs.Encoding.{lock_of, word_of, payload_of, record_bytes, contents, by_lawful_core, all_lawful, encodable};
 ghost use Rattle.job.specs.Encoding.{encode as encoding, LawfulCall};
 ghost use Rattle.job.specs.Reading.{reading, says};
@@ -36,7 +36,7 @@ fn record_of(call: Call) -> [u8; 13]
 
 // The contents of a job.
 fn contents_of(figures: &Figures, records: u32) -> [u8; 16]
-    ensures { result ≡ contents (Numbers-of figures.now) records }
+    ensures { result ≡ contents (numbers_of figures.now) records }
 {
     let [w1, w0] = figures.words().to_be_bytes();
     let [z1, z0] = figures.strip().to_be_bytes();
@@ -105,8 +105,8 @@ fn write_records(calls: &[Call], out: &mut [u8])
 // Writes a whole job into the first bytes of `out`.
 fn write_job(figures: &Figures, calls: &[Call], out: &mut [u8])
     requires { (length calls.now ≤ 4608) × (16 + 13 * length calls.now ≤ length out.old) }
-    ensures after { out.new ≡ encoding (Numbers-of figures.now) calls.now ++ drop (16 + 13 * length calls.now) out.old }
-    ensures reads { All LawfulCall calls.now → reading (encoding (Numbers-of figures.now) calls.now) ≡ Ok (says (Numbers-of figures.now) calls.now) }
+    ensures after { out.new ≡ encoding (numbers_of figures.now) calls.now ++ drop (16 + 13 * length calls.now) out.old }
+    ensures reads { All LawfulCall calls.now → reading (encoding (numbers_of figures.now) calls.now) ≡ Ok (says (numbers_of figures.now) calls.now) }
 {
     write_records(calls, out);
     out[0..16].copy_from_slice(&contents_of(figures, calls.len() as u32));
@@ -117,8 +117,8 @@ fn write_job(figures: &Figures, calls: &[Call], out: &mut [u8])
 /// above 7 and too little room, and then writes nothing.
 pub fn encode(figures: &Figures, calls: &[Call], out: &mut [u8]) -> Option<usize>
     ensures value { result ≡ (if encodable calls.now (length out.old) then Some (16 + 13 * length calls.now) else None) }
-    ensures after { out.new ≡ (if encodable calls.now (length out.old) then encoding (Numbers-of figures.now) calls.now ++ drop (16 + 13 * length calls.now) out.old else out.old) }
-    ensures reads { OnSome result (reading (encoding (Numbers-of figures.now) calls.now) ≡ Ok (says (Numbers-of figures.now) calls.now)) }
+    ensures after { out.new ≡ (if encodable calls.now (length out.old) then encoding (numbers_of figures.now) calls.now ++ drop (16 + 13 * length calls.now) out.old else out.old) }
+    ensures reads { OnSome result (reading (encoding (numbers_of figures.now) calls.now) ≡ Ok (says (numbers_of figures.now) calls.now)) }
 {
     let size = calls.len();
     if size > 4_608 || out.len() < 16 + 13 * size || !all_lawful(calls) {

@@ -1,5 +1,7 @@
 //! The lines that playback prints: an answer record or a job's fault as text in a field of 48 bytes of the caller's. Nothing
 //! here allocates, and a field keeps its bytes past the line.
+#![tactic(auto)]
+
 ghost use Rattle.std.specs.Prelude.{◌≡◌, ◌*◌, ◌/◌, ◌≤◌, ◌++◌, length, drop, if◌then◌else◌, Some, None};
 ghost use Rattle.std.specs.List.{flat_map};
 ghost use Rattle.lines.specs.Laws.{LinesApart, FaultsApart, NeverBoth};

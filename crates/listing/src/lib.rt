@@ -1,4 +1,6 @@
 //! The text of a job: its figures and its calls in plain words, or the one line of its fault.
+#![tactic(auto)]
+
 ghost use Rattle.std.specs.Prelude.{◌≡◌, ◌<◌, ◌++◌, length, IfOk, string_bytes};
 ghost use Rattle.job.specs.Jobs.{rest, calls_of, verdict_of};
 ghost use Rattle.listing.specs.Laws.{LinesApart};

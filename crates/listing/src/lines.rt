@@ -1,6 +1,6 @@
 //! The lines of a job's text.
 ghost use Rattle.std.specs.Prelude.{◌≡◌, ◌<◌, IfOk, string_bytes};
-ghost use Rattle.call.specs.Figures.{five, figures as Numbers-of};
+ghost use Rattle.call.specs.Figures.{five, figures as numbers_of};
 ghost use Rattle.call.specs.Told.{fault_told};
 ghost use Rattle.listing.specs.Lines.{figures_line, strip_text, plan_text, call_line, told_line};
 
@@ -30,7 +30,7 @@ pub(crate) fn figures_line(
     figures: &Figures,
     records: u16,
 ) -> Result<String, AllocError>
-    ensures { IfOk result (λ s. string_bytes s ≡ figures_line (Numbers-of figures.now) records) }
+    ensures { IfOk result (λ s. string_bytes s ≡ figures_line (numbers_of figures.now) records) }
 {
     numbers_line(
         heap,

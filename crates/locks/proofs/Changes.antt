@@ -52,19 +52,19 @@ module _ (s : Locks) (core lock : ℕ) (below : core < 8) (within : lock < 8) wh
   in_rows : lock < length s.rows
   in_rows = let n = s.eight_locks in omega arith
 
-  in-cores : core < length s.cores
-  in-cores = let n = s.eight_cores in omega arith
+  in_cores : core < length s.cores
+  in_cores = let n = s.eight_cores in omega arith
 
   -- an acquire
   module _ (after : List Row) (e : map lock_of after ≡ set (map lock_of s.rows) lock (acquired_by (locks_of s lock).holder (locks_of s lock) core)) (away : does s core ≡ Away) (cores : List Attendance) (d : cores ≡ set s.cores core (attending (granted (locks_of s lock).holder (locks_of s lock)) lock)) where
     pub acquire_queues : QueuesTied (kept after) (doing cores)
     acquire_queues =
-        tied_same queue_count wait_count _ _ _ _ (kept_upd s.rows after lock _ in_rows e) (ap doing d ∙ set_doing s.cores core _ in-cores)
+        tied_same queue_count wait_count _ _ _ _ (kept_upd s.rows after lock _ in_rows e) (ap doing d ∙ set_doing s.cores core _ in_cores)
         (entered_queues (locks_of s) (does s) core lock s.queued s.held away (locks_of s lock).holder)
 
     pub acquire_holders : HoldersTied (kept after) (doing cores)
     acquire_holders =
-        tied_same is_holder holder_of _ _ _ _ (kept_upd s.rows after lock _ in_rows e) (ap doing d ∙ set_doing s.cores core _ in-cores)
+        tied_same is_holder holder_of _ _ _ _ (kept_upd s.rows after lock _ in_rows e) (ap doing d ∙ set_doing s.cores core _ in_cores)
         (entered_holders (locks_of s) (does s) core lock s.queued s.held away (locks_of s lock).holder refl)
 
   -- who holds a lock is known to hold it
@@ -106,7 +106,7 @@ module _ (s : Locks) (core lock : ℕ) (below : core < 8) (within : lock < 8) wh
     by_queue : (q : List ℕ) → (locks_of s lock).queue ≡ q → IfSome (passed_to q) (λ n. n < length s.cores) → LeftTied q
     by_queue [] e n =
         let same = ap (λ (q : List ℕ). upd (locks_of s) lock (record { holder = None; queue = q; last = Some core })) (sym e) in
-        let cores = set_doing s.cores core Away in-cores in
+        let cores = set_doing s.cores core Away in_cores in
         (tied_same queue_count wait_count _ _ _ _ same cores down_queues, tied_same is_holder holder_of _ _ _ _ same cores down_holders)
     by_queue (next ∷ more) e n =
         let locks = upd (locks_of s) lock down in
@@ -114,7 +114,7 @@ module _ (s : Locks) (core lock : ℕ) (below : core < 8) (within : lock < 8) wh
         let here = upd_same (locks_of s) lock down in
         let queue = ap (λ (l : Lock). l.queue) here ∙ e in
         let same = sym (upd_twice (locks_of s) lock down (passed locks does lock next more (Some core) down_queues down_holders)) in
-        let cores = set_doing (set s.cores core Away) next (Holds lock) (rw length-set n) ∙ ap (λ (h : ℕ → Attendance). upd h next (Holds lock)) (set_doing s.cores core Away in-cores) in (
+        let cores = set_doing (set s.cores core Away) next (Holds lock) (rw length-set n) ∙ ap (λ (h : ℕ → Attendance). upd h next (Holds lock)) (set_doing s.cores core Away in_cores) in (
           tied_same queue_count wait_count _ _ _ _ same cores (passed_queues locks does lock next more (Some core) down_queues down_holders queue),
           tied_same is_holder holder_of _ _ _ _ same cores (passed_holders locks does lock next more (Some core) down_queues down_holders queue (ap (λ (l : Lock). l.holder) here)),
         )

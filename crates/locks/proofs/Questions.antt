@@ -3,7 +3,7 @@
 use Rattle.std.proofs.Common.{◌≡◌, ℕ, ◌+◌, ◌<◌, ◌≤◌, Bool, true, false, cond, ◌||◌, eqb, ◌⊎◌, List, [], ◌∷◌, is_some, Some, None, Option, sym, refl, ap, ◌∙◌, inl, inr, ⊎_elim, arith}
 use Rattle.std.proofs.lemmas.Bool.{eq-eqb, ne_eqb, cases_lt, cases_eq, or_from, false≢true, or_left, or_right}
 use Rattle.std.proofs.lemmas.Bool.Decides.{nat_tests}
-use Rattle.rules.proofs.Members.{In, in-below}
+use Rattle.rules.proofs.Members.{In, in_below}
 use Rattle.rules.specs.Refusals.{waits, holds_some, some_held}
 use Rattle.rules.specs.State.{Lock, free}
 use Rattle.rules.specs.Tables.{some_of, below, is}
@@ -56,7 +56,7 @@ module _ (locks : ℕ → Lock) (does : ℕ → Attendance) (core : ℕ) (past :
       go Away e = none_of (λ lock. some_of (λ waiter. eqb waiter core) (locks lock).queue) (below 8) (λ l. absent core (locks l).queue (queues core l ∙ ap (λ (d : Attendance). wait_count d l) e))
       go (Holds held) e = none_of (λ lock. some_of (λ waiter. eqb waiter core) (locks lock).queue) (below 8) (λ l. absent core (locks l).queue (queues core l ∙ ap (λ (d : Attendance). wait_count d l) e))
       go (Waits wanted) e =
-          one_of (λ lock. some_of (λ waiter. eqb waiter core) (locks lock).queue) (below 8) wanted (in-below wanted 8 (wanted_below wanted e)) (present core (locks wanted).queue (once wanted e))
+          one_of (λ lock. some_of (λ waiter. eqb waiter core) (locks lock).queue) (below 8) wanted (in_below wanted 8 (wanted_below wanted e)) (present core (locks wanted).queue (once wanted e))
 
   pub holds_told : holds_some locks core ≡ holding (does core)
   holds_told = go (does core) refl
@@ -64,4 +64,4 @@ module _ (locks : ℕ → Lock) (does : ℕ → Attendance) (core : ℕ) (past :
       go : (d : Attendance) → does core ≡ d → holds_some locks core ≡ holding d
       go Away e = none_of (λ lock. is (locks lock).holder core) (below 8) (λ l. holders core l ∙ ap (λ (d : Attendance). holder_of d l) e)
       go (Waits wanted) e = none_of (λ lock. is (locks lock).holder core) (below 8) (λ l. holders core l ∙ ap (λ (d : Attendance). holder_of d l) e)
-      go (Holds held) e = one_of (λ lock. is (locks lock).holder core) (below 8) held (in-below held 8 (held_below held e)) (holder_there held e)
+      go (Holds held) e = one_of (λ lock. is (locks lock).holder core) (below 8) held (in_below held 8 (held_below held e)) (holder_there held e)

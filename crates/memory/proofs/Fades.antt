@@ -146,18 +146,18 @@ module _ (f : Five) (plan : ℕ) where
         done =
             below_more _ _
             (λ k h. get_or-set_other fs at k held empty (λ e. omega arith) ∙ s.done k h)
-            (get_or-set_same fs at held empty in-fs ∙ (he ∙ ap (left_by f plan) now));
+            (get_or-set_same fs at held empty in_fs ∙ (he ∙ ap (left_by f plan) now));
         rest = λ k h. get_or-set_other fs at k held empty (λ e. omega arith) ∙ s.rest k (omega arith);
         counted = ap (λ (n : ℕ). count + n) told ∙ rw add-one (go (within f at) refl);
         small = omega (arith, s.small);
         long = length-set fs at held ∙ s.long;
       }
     where
-      in-fs : at < length fs
-      in-fs = omega (arith, s.long)
+      in_fs : at < length fs
+      in_fs = omega (arith, s.long)
 
       now : get_or fs at d ≡ get_or es at empty
-      now = get_or_default fs at d empty in-fs ∙ s.rest at (omega arith)
+      now = get_or_default fs at d empty in_fs ∙ s.rest at (omega arith)
 
       told : added ≡ cond {A = ℕ} (test es (place_at at) && within f at) 1 0
       told =

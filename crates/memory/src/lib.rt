@@ -1,5 +1,6 @@
 //! The memory of a board: its page, each core's copies of words, and who owns which word. It knows no lock, no race, no
 //! refusal and no signature: those stand above it.
+#![tactic(auto)]
 
 pub mod bounds;
 pub mod entry;

@@ -6,7 +6,7 @@ use Rattle.std.proofs.lemmas.Bool.{cases_lt, cond-true, cond_below, cond_above, 
 use Rattle.word.specs.declared.word.Word.{Word}
 use Rattle.page.specs.Pages.{outside, read_answer, write_answer}
 use Rattle.word.specs.Words.{blank_word}
-use Rattle.page.specs.Slots.{Slot, slot_for, in-slot, changed, shown, laid, made_way, slots_after, below_after}
+use Rattle.page.specs.Slots.{Slot, slot_for, in_slot, changed, shown, laid, made_way, slots_after, below_after}
 use Rattle.page.specs.declared.change.Change.{Change}
 use Rattle.page.specs.declared.outside.Outside.{Outside}
 use Rattle.page.proofs.Slots.{length_laid, laid_at, filled}
@@ -66,7 +66,7 @@ module _ (slots : List Slot) (below : List Word) (k : ℕ) where
   pub below_inside : (below' : List Word) → k < length below → below' ≡ made_way (slot_for slots k) k below → below' ≡ below_after slots below k
   below_inside below' h e = e ∙ cond_below k (length below) _ below h
 
-  pub laid_inside : (x : Word) (slots' : List Slot) (below' : List Word) → length slots ≡ 128 → ((i : ℕ) → in-slot i (get_or slots i None) ≡ true) → k < length below → slots' ≡ slots → below' ≡ made_way (slot_for slots k) k below → laid (set slots' (k % 128) (Some (record { place = k; word = x }))) below' ≡ set (laid slots below) k x
+  pub laid_inside : (x : Word) (slots' : List Slot) (below' : List Word) → length slots ≡ 128 → ((i : ℕ) → in_slot i (get_or slots i None) ≡ true) → k < length below → slots' ≡ slots → below' ≡ made_way (slot_for slots k) k below → laid (set slots' (k % 128) (Some (record { place = k; word = x }))) below' ≡ set (laid slots below) k x
   laid_inside x slots' below' full lies h e f =
       ap (λ (ss : List Slot). laid (set ss (k % 128) (Some (record { place = k; word = x }))) below') e
       ∙ ap (laid (set slots (k % 128) (Some (record { place = k; word = x })))) f

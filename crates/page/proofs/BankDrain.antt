@@ -4,12 +4,12 @@
 use Rattle.std.proofs.Common.{◌≡◌, ℕ, ◌+◌, ◌<◌, true, List, length, get_or, set, replicate, None, sym, refl, ap, ◌∙◌, arith, below_more}
 use Rattle.std.proofs.lemmas.List.{ext_get_or, get_or-set_same, get_or-set_other, get_or-replicate, length-replicate}
 use Rattle.word.specs.declared.word.Word.{Word}
-use Rattle.page.specs.Slots.{Slot, in-slot, laid, flushed}
+use Rattle.page.specs.Slots.{Slot, in_slot, laid, flushed}
 use Rattle.page.proofs.Slots.{emptied}
 
 module _ (slots slots' : List Slot) (i : ℕ) (full : length slots ≡ 128) (few : i < 128) (step : slots' ≡ set slots i None) where
   -- one step keeps what the bank means
-  pub drain_keeps : (below below' : List Word) → ((k : ℕ) → in-slot k (get_or slots k None) ≡ true) → below' ≡ flushed (get_or slots i None) below → laid slots' below' ≡ laid slots below
+  pub drain_keeps : (below below' : List Word) → ((k : ℕ) → in_slot k (get_or slots k None) ≡ true) → below' ≡ flushed (get_or slots i None) below → laid slots' below' ≡ laid slots below
   drain_keeps below below' lies written =
       ap (λ (ss : List Slot). laid ss below') step ∙ ap (laid (set slots i None)) written
       ∙ emptied slots below full lies i few

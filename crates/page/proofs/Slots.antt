@@ -9,7 +9,7 @@ use Rattle.std.proofs.lemmas.Bool.{cases_eq, cases_lt, cond_both, cond-true, con
 use Rattle.std.specs.List.{range_with_len}
 use Rattle.word.specs.declared.word.Word.{Word}
 use Rattle.word.specs.Words.{blank_word}
-use Rattle.page.specs.Slots.{Slot, slot_for, in-slot, changed, shown, flushed, laid, slots_after, made_way, below_after}
+use Rattle.page.specs.Slots.{Slot, slot_for, in_slot, changed, shown, flushed, laid, slots_after, made_way, below_after}
 use Rattle.page.specs.declared.change.Change.{Change}
 
 -- a bank has as many words as the list below
@@ -45,14 +45,14 @@ pub empty_full : (slots : List Slot) → slots ≡ replicate 128 None → length
 empty_full slots e = ap length e
 
 -- and in them everything lies where it must
-pub empty_lies : (slots : List Slot) → slots ≡ replicate 128 None → (i : ℕ) → in-slot i (get_or slots i None) ≡ true
-empty_lies slots e i = ap (λ (ss : List Slot). in-slot i (get_or ss i None)) e ∙ ⊎_elim inside past (cases_lt i 128)
+pub empty_lies : (slots : List Slot) → slots ≡ replicate 128 None → (i : ℕ) → in_slot i (get_or slots i None) ≡ true
+empty_lies slots e i = ap (λ (ss : List Slot). in_slot i (get_or ss i None)) e ∙ ⊎_elim inside past (cases_lt i 128)
   where
-    inside : i < 128 → in-slot i (get_or (replicate 128 None) i None) ≡ true
-    inside h = ap (in-slot i) (get_or-replicate 128 i None None h)
+    inside : i < 128 → in_slot i (get_or (replicate 128 None) i None) ≡ true
+    inside h = ap (in_slot i) (get_or-replicate 128 i None None h)
 
-    past : 128 ≤ i → in-slot i (get_or (replicate 128 None) i None) ≡ true
-    past h = ap (in-slot i) (get_or_past (replicate 128 None) i None (omega (arith, length-replicate {A = Slot} 128 None)))
+    past : 128 ≤ i → in_slot i (get_or (replicate 128 None) i None) ≡ true
+    past h = ap (in_slot i) (get_or_past (replicate 128 None) i None (omega (arith, length-replicate {A = Slot} 128 None)))
 
 -- a slot shows its word at the word's place
 pub shown_here : (change : Change) (j : ℕ) (w : Word) → change.place ≡ j → shown (Some change) j w ≡ change.word
@@ -93,7 +93,7 @@ flushed_shows (Some change) below j h = ⊎_elim here apart (cases_eq change.pla
         ∙ sym (shown_apart change j (get_or below j blank_word) ne)
 
 -- and a place that lies in another slot keeps its word
-pub flushed_other : (s : Slot) (i : ℕ) (below : List Word) (j : ℕ) → in-slot i s ≡ true → j % 128 ≢ i → get_or (flushed s below) j blank_word ≡ get_or below j blank_word
+pub flushed_other : (s : Slot) (i : ℕ) (below : List Word) (j : ℕ) → in_slot i s ≡ true → j % 128 ≢ i → get_or (flushed s below) j blank_word ≡ get_or below j blank_word
 flushed_other None i below j lies apart = refl
 flushed_other (Some change) i below j lies apart =
     get_or-set_other below change.place j change.word blank_word
@@ -115,14 +115,14 @@ made_way_shows (Some change) k below j h ne = ⊎_elim here apart (cases_eq chan
         ∙ flushed_shows (Some change) below j h
 
 -- and at a place that lies in another slot
-pub made_way_other : (s : Slot) (i k : ℕ) (below : List Word) (j : ℕ) → in-slot i s ≡ true → j % 128 ≢ i → get_or (made_way s k below) j blank_word ≡ get_or below j blank_word
+pub made_way_other : (s : Slot) (i k : ℕ) (below : List Word) (j : ℕ) → in_slot i s ≡ true → j % 128 ≢ i → get_or (made_way s k below) j blank_word ≡ get_or below j blank_word
 made_way_other None i k below j lies apart = refl
 made_way_other (Some change) i k below j lies apart =
     cond_both (eqb change.place k) below (flushed (Some change) below) (λ ws. get_or ws j blank_word ≡ get_or below j blank_word)
     (λ _. refl)
     (λ _. flushed_other (Some change) i below j lies apart)
 
-module _ (slots : List Slot) (below : List Word) (full : length slots ≡ 128) (lies : (i : ℕ) → in-slot i (get_or slots i None) ≡ true) where
+module _ (slots : List Slot) (below : List Word) (full : length slots ≡ 128) (lies : (i : ℕ) → in_slot i (get_or slots i None) ≡ true) where
   -- the slot of a place in a changed slot, and in another
   slot_same : (i j : ℕ) (s : Slot) → i < 128 → j % 128 ≡ i → slot_for (set slots i s) j ≡ s
   slot_same i j s h e = ap (λ (p : ℕ). get_or (set slots i s) p None) e ∙ get_or-set_same slots i s None (omega arith)

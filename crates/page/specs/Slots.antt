@@ -16,9 +16,9 @@ abbrev pub slot_for : List Slot → ℕ → Slot
 slot_for slots place = slice_index_or slots (place % 128) None
 
 -- whether what a slot holds lies in it: only a word whose place is the slot's number mod 128
-abbrev pub in-slot : ℕ → Slot → Bool
-in-slot slot None = true
-in-slot slot (Some change) = change.place % 128 == slot
+abbrev pub in_slot : ℕ → Slot → Bool
+in_slot slot None = true
+in_slot slot (Some change) = change.place % 128 == slot
 
 -- the changed word that a slot holds for a place, if it holds one
 abbrev pub changed : Slot → ℕ → Option Word

@@ -1,7 +1,7 @@
 //! The bank: a page store over any page store. The type stands apart from its methods, since a type with a ghost field
 //! takes in all that its file names.
 ghost use Rattle.std.specs.Prelude.{◌≡◌, ℕ, true, length, None, slice_index_or};
-ghost use Rattle.page.specs.Slots.{in-slot};
+ghost use Rattle.page.specs.Slots.{in_slot};
 
 use crate::change::Change;
 
@@ -15,5 +15,5 @@ pub struct Bank<P> {
     slots: [Option<Change>; 128],
     below: P,
     ghost full: { length slots ≡ 128 },
-    ghost lies: { (slot : ℕ) → in-slot slot (slice_index_or slots slot None) ≡ true },
+    ghost lies: { (slot : ℕ) → in_slot slot (slice_index_or slots slot None) ≡ true },
 }

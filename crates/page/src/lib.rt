@@ -1,4 +1,5 @@
 //! Page stores: what a page means, two stores that hold words, and a bank over any store.
+#![tactic(auto)]
 
 pub mod access;
 pub mod bank;

@@ -9,8 +9,8 @@ use crate::store::PageStore;
 
 /// Makes one access to a store: it answers as the list that the store means would, and then means what that list becomes.
 pub fn serve<P: PageStore>(store: &mut P, access: Access) -> Reply
-    ensures answer { result ≡ reply_of (words store.old) access }
-    ensures after { words store.new ≡ list_after (words store.old) access }
+    ensures answer { result ≡ reply_of (P.words store.old) access }
+    ensures after { P.words store.new ≡ list_after (P.words store.old) access }
 {
     match access {
         Access::Read(place) => match store.read(place) {
@@ -28,8 +28,8 @@ pub fn serve<P: PageStore>(store: &mut P, access: Access) -> Reply
 /// those of the list that the store means; room past them is kept.
 pub fn play<P: PageStore>(store: &mut P, accesses: &[Access], replies: &mut [Reply]) -> usize
     ensures number { result ≡ min (length accesses.now) (length replies.old) }
-    ensures answers { replies.new ≡ replies_of (words store.old) (take result accesses.now) ++ drop result replies.old }
-    ensures after { words store.new ≡ list_after_all (words store.old) (take result accesses.now) }
+    ensures answers { replies.new ≡ replies_of (P.words store.old) (take result accesses.now) ++ drop result replies.old }
+    ensures after { P.words store.new ≡ list_after_all (P.words store.old) (take result accesses.now) }
 {
     let number = accesses.len().min(replies.len());
     for i in 0..number {
@@ -46,9 +46,9 @@ pub fn play_and_drain<P: PageStore>(
     replies: &mut [Reply],
 ) -> usize
     ensures number { result ≡ min (length accesses.now) (length replies.old) }
-    ensures answers { replies.new ≡ replies_of (laid bank.old.slots (words bank.old.below)) (take result accesses.now) ++ drop result replies.old }
-    ensures after { laid bank.new.slots (words bank.new.below) ≡ list_after_all (laid bank.old.slots (words bank.old.below)) (take result accesses.now) }
-    ensures below { words bank.new.below ≡ list_after_all (laid bank.old.slots (words bank.old.below)) (take result accesses.now) }
+    ensures answers { replies.new ≡ replies_of (laid bank.old.slots (P.words bank.old.below)) (take result accesses.now) ++ drop result replies.old }
+    ensures after { laid bank.new.slots (P.words bank.new.below) ≡ list_after_all (laid bank.old.slots (P.words bank.old.below)) (take result accesses.now) }
+    ensures below { P.words bank.new.below ≡ list_after_all (laid bank.old.slots (P.words bank.old.below)) (take result accesses.now) }
     ensures slots { bank.new.slots ≡ replicate 128 None }
 {
     let number = play(bank, accesses, replies);

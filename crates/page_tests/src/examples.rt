@@ -16,7 +16,7 @@ pub fn put_in_bytes(bytes: &mut [u8], place: u16, word: Word)
 
 /// Writes a word through a bank over a bank over a store, drains both, and gives the store back.
 pub fn through_two_banks<P: PageStore>(store: P, place: u16, word: Word) -> P
-    ensures { words result ≡ slice_set (words store) place word }
+    ensures { P.words result ≡ slice_set (P.words store) place word }
 {
     let mut outer = Bank::new(Bank::new(store));
     let _ = outer.write(place, word);

@@ -1,5 +1,6 @@
 //! A whole job on a board just opened: the job is checked, then every call is made, and each fills one record of the caller's answer
 //! table. Neither the board nor the job reader sees the other.
+#![tactic(auto)]
 
 pub mod outcome;
 pub mod player;

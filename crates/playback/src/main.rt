@@ -1,5 +1,7 @@
 //! Reads a job from standard input, at most 65,536 bytes, plays it on a bank over a table, all words 0, with the Bloom signature, and
 //! prints a line for each call, or the one line of the job's first fault.
+#![tactic(auto)]
+
 use call::{Answer, AnswerRecord, Kind};
 use input::{LONGEST, fill};
 use std::io;

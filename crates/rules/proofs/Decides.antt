@@ -135,7 +135,7 @@ module _ (r q : Ran) (o : SameOrder r q) where
             let S' = inner T' l.before l.event l.after l.stands in
             let st = stores_tells a.word l.event (accepts_q S') l.passes in
             let c = carried S' st.store st.call st.here l.after l.stands in
-            let t = tells_stores a.word c.spot.event st.store (accepts_r c.spot) (ap store_of c.twins-s.call ∙ st.call) st.here in
+            let t = tells_stores a.word c.spot.event st.store (accepts_r c.spot) (ap store_of c.twins_s.call ∙ st.call) st.here in
             both_ways (stores_to a.word c.spot.event) (none_at (stores_to a.word) c.spot.before c.spot.event c.between (ap (some_of (stores_to a.word)) (sym c.first) ∙ none)) t
 
     -- the last store before the first has a twin that is the last before the second
@@ -184,11 +184,11 @@ module _ (r q : Ran) (o : SameOrder r q) where
             let su = stores_tells a.word k.event (accepts_q U') k.passes in
             let c = carried U' su.store su.call su.here k.after upto in
             let u_uses = store_accesses k.event.call su.store su.call in
-            let s_first = keeps_order q r (same_order_back r q o) S' U' S c.spot st.store (record { core = su.store.core; word = su.store.word }) call' u_uses (st.here ∙ sym su.here) (twins_back st.store.core S S' found_s.1) (twins_back su.store.core c.spot U' c.twins-s) k.before refl in
+            let s_first = keeps_order q r (same_order_back r q o) S' U' S c.spot st.store (record { core = su.store.core; word = su.store.word }) call' u_uses (st.here ∙ sym su.here) (twins_back st.store.core S S' found_s.1) (twins_back su.store.core c.spot U' c.twins_s) k.before refl in
             let whole : l.before ++ (l.event ∷ l.after) ≡ l.before ++ (l.event ∷ (s_first.0 ++ (c.spot.event ∷ c.between))) = sym l.stands ∙ (c.first ∙ (ap (λ (x : History). x ++ (c.spot.event ∷ c.between)) s_first.1 ∙ append_assoc l.before (l.event ∷ s_first.0) (c.spot.event ∷ c.between))) in
             let tails = append_cancel_left l.before (l.event ∷ l.after) (l.event ∷ (s_first.0 ++ (c.spot.event ∷ c.between))) whole in
             let rest = tail_same l.event l.event l.after (s_first.0 ++ (c.spot.event ∷ c.between)) tails in
-            let t = tells_stores a.word c.spot.event su.store (accepts_r c.spot) (ap store_of c.twins-s.call ∙ su.call) su.here in
+            let t = tells_stores a.word c.spot.event su.store (accepts_r c.spot) (ap store_of c.twins_s.call ∙ su.call) su.here in
             both_ways (stores_to a.word c.spot.event) (none_at (stores_to a.word) s_first.0 c.spot.event c.between (ap (some_of (stores_to a.word)) (sym rest) ∙ l.none_later)) t
 
         none_later' : some_of (stores_to a.word) after.0 ≡ false

@@ -131,7 +131,7 @@ module _ (b : Setting) (fits : Fits b) (now : ℕ → Word) (s : State) (g g' : 
 
   -- ── store ──
 
-  module _ (core word value : ℕ) (in-cores : core < f.cores) (in_size : word < b.size) (writable : is_read_only (mode_of f l.plan word) ≡ false) (open_to : shut_out l.locks (mode_of f l.plan word) core ≡ false) where
+  module _ (core word value : ℕ) (in_cores : core < f.cores) (in_size : word < b.size) (writable : is_read_only (mode_of f l.plan word) ≡ false) (open_to : shut_out l.locks (mode_of f l.plan word) core ≡ false) where
     abbrev l' : Ledger
     l' = entered l (call.Store core word value)
 
@@ -144,7 +144,7 @@ module _ (b : Setting) (fits : Fits b) (now : ℕ → Word) (s : State) (g g' : 
         (λ c w p. record { by = p.by; stores = stored_before l.accesses core word p.by w p.stores; other = p.other })
         core word x
         (λ c away. record { by = core; stores = stored_now l.accesses core word; other = λ _ e. away (sym e) })
-        in-cores s.memory
+        in_cores s.memory
         (let enough = good.long in omega arith)
         good.sound
 
@@ -212,7 +212,7 @@ module _ (b : Setting) (fits : Fits b) (now : ℕ → Word) (s : State) (g g' : 
       weakened f now (Stale f l) (Stale f (with_lock l lock new)) s.memory (λ c w p. record { by = p.by; stores = p.stores; other = p.other }) good.sound
 
   acquire_good : (core lock : ℕ) → core < f.cores → Changes (changes f l (call.Acquire core lock)) g g' → Good b now (after b g s (call.Acquire core lock)) g'
-  acquire_good core lock in-cores ch =
+  acquire_good core lock in_cores ch =
       let few = fits.cores in
       let k = acquired_guarded (l.locks lock).holder (l.locks lock) core g g' refl (omega arith) (good.phased.cores lock) ch in
       record {
@@ -224,19 +224,19 @@ module _ (b : Setting) (fits : Fits b) (now : ℕ → Word) (s : State) (g g' : 
       cores_after : (o : Option ℕ) → (l.locks lock).holder ≡ o → Cores (acquired_by o (l.locks lock) core)
       cores_after None e =
           record {
-            holder = λ c h. let few = fits.cores in let who : core ≡ c = cc in omega (arith, in-cores);
+            holder = λ c h. let few = fits.cores in let who : core ≡ c = cc in omega (arith, in_cores);
             queue = (good.phased.cores lock).queue;
             last = (good.phased.cores lock).last;
           }
       cores_after (Some d) e =
           record {
             holder = λ c h. (good.phased.cores lock).holder c (e ∙ h);
-            queue = λ c h. ⊎_elim (λ p. (good.phased.cores lock).queue c p) (λ p. let few = fits.cores in let who : c ≡ core = ⊎_elim (λ q. q) (λ q. absurd q) p in omega (arith, in-cores)) (in_parts c (l.locks lock).queue (core ∷ []) h);
+            queue = λ c h. ⊎_elim (λ p. (good.phased.cores lock).queue c p) (λ p. let few = fits.cores in let who : c ≡ core = ⊎_elim (λ q. q) (λ q. absurd q) p in omega (arith, in_cores)) (in_parts c (l.locks lock).queue (core ∷ []) h);
             last = (good.phased.cores lock).last;
           }
 
   release_good : (core lock : ℕ) → core < f.cores → (l.locks lock).holder ≡ Some core → Changes (changes f l (call.Release core lock)) g g' → Good b now (after b g s (call.Release core lock)) g'
-  release_good core lock in-cores held ch =
+  release_good core lock in_cores held ch =
       let few = fits.cores in
       let k = released_guarded (l.locks lock).queue (l.locks lock) core g g' refl held (omega arith) (good.phased.cores lock) ch in
       record {
@@ -250,13 +250,13 @@ module _ (b : Setting) (fits : Fits b) (now : ℕ → Word) (s : State) (g g' : 
           record {
             holder = λ c h. let z : ◌≡◌ {A = ℕ} 0 1 = cc in omega arith;
             queue = λ c h. absurd h;
-            last = λ c h. let few = fits.cores in let who : core ≡ c = cc in omega (arith, in-cores);
+            last = λ c h. let few = fits.cores in let who : core ≡ c = cc in omega (arith, in_cores);
           }
       cores_after (next ∷ more) e =
           record {
             holder = λ c h. (good.phased.cores lock).queue c (rw e (inl (let who : c ≡ next = cc in who)));
             queue = λ c h. (good.phased.cores lock).queue c (rw e (inr h));
-            last = λ c h. let few = fits.cores in let who : core ≡ c = cc in omega (arith, in-cores);
+            last = λ c h. let few = fits.cores in let who : core ≡ c = cc in omega (arith, in_cores);
           }
 
   -- ── a new phase ──
@@ -283,12 +283,12 @@ module _ (b : Setting) (fits : Fits b) (now : ℕ → Word) (s : State) (g g' : 
       load_keeps core word p.open_to p.unraced ch
   accepted_good (call.Store core word value) e ch =
       let p = store_passes b l core word value e in
-      store_good core word value p.in-cores p.in_size p.writable p.open_to ch
+      store_good core word value p.in_cores p.in_size p.writable p.open_to ch
   accepted_good (call.Evict core word) e ch = evict_good core word ch
   accepted_good (call.Acquire core lock) e ch =
-      acquire_good core lock (acquire_passes b l core lock e).0.in-cores ch
+      acquire_good core lock (acquire_passes b l core lock e).0.in_cores ch
   accepted_good (call.Release core lock) e ch =
       let p = release_passes b l core lock e in
-      release_good core lock p.0.in-cores (holds_tells (l.locks lock).holder core p.1) ch
+      release_good core lock p.0.in_cores (holds_tells (l.locks lock).holder core p.1) ch
   accepted_good (call.Phase plan) e ch = phase_good plan
   accepted_good call.Settle e ch = settle_good ch

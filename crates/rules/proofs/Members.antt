@@ -21,23 +21,23 @@ pub in_map : {X Y : Type 0} (g : X → Y) (x : X) (xs : List X) → In x xs → 
 in_map g x [] h = absurd h
 in_map g x (y ∷ xs) h = ⊎_elim (λ e. inl (ap g e)) (λ r. inr (in_map g x xs r)) h
 
-pub in-joined : {X Y : Type 0} (g : X → List Y) (x : X) (y : Y) (xs : List X) → In x xs → In y (g x) → In y (flat_map g xs)
-in-joined g x y [] h k = absurd h
-in-joined g x y (z ∷ xs) h k =
-    ⊎_elim (λ e. in_left y (g z) (flat_map g xs) (rw e at k)) (λ r. in_right y (g z) (flat_map g xs) (in-joined g x y xs r k)) h
+pub in_joined : {X Y : Type 0} (g : X → List Y) (x : X) (y : Y) (xs : List X) → In x xs → In y (g x) → In y (flat_map g xs)
+in_joined g x y [] h k = absurd h
+in_joined g x y (z ∷ xs) h k =
+    ⊎_elim (λ e. in_left y (g z) (flat_map g xs) (rw e at k)) (λ r. in_right y (g z) (flat_map g xs) (in_joined g x y xs r k)) h
 
 pub lt_or_eq : (j m : ℕ) → j < suc m → (j < m) ⊎ (j ≡ m)
 lt_or_eq j m h = grind arith
 
-pub in-below : (i n : ℕ) → i < n → In i (below n)
-in-below i zero l = let no_way : ⊥ = omega arith in absurd no_way
-in-below i (suc n) l =
-    ⊎_elim (λ h. in_left i (below n) (n ∷ []) (in-below i n h)) (λ e. in_right i (below n) (n ∷ []) (inl e)) (lt_or_eq i n l)
+pub in_below : (i n : ℕ) → i < n → In i (below n)
+in_below i zero l = let no_way : ⊥ = omega arith in absurd no_way
+in_below i (suc n) l =
+    ⊎_elim (λ h. in_left i (below n) (n ∷ []) (in_below i n h)) (λ e. in_right i (below n) (n ∷ []) (inl e)) (lt_or_eq i n l)
 
-pub in-places : (f : Five) (core slot : ℕ) → core < f.cores → slot < f.slots → In (record { core = core; slot = slot }) (places f)
-in-places f core slot c s =
-    in-joined (λ k. map (λ i. record { core = k; slot = i }) (below f.slots)) core (record { core = core; slot = slot }) (below f.cores) (in-below core f.cores c)
-    (in_map (λ i. record { core = core; slot = i }) slot (below f.slots) (in-below slot f.slots s))
+pub in_places : (f : Five) (core slot : ℕ) → core < f.cores → slot < f.slots → In (record { core = core; slot = slot }) (places f)
+in_places f core slot c s =
+    in_joined (λ k. map (λ i. record { core = k; slot = i }) (below f.slots)) core (record { core = core; slot = slot }) (below f.cores) (in_below core f.cores c)
+    (in_map (λ i. record { core = core; slot = i }) slot (below f.slots) (in_below slot f.slots s))
 
 pub in_parts : {X : Type 0} (x : X) (xs ys : List X) → In x (xs ++ ys) → In x xs ⊎ In x ys
 in_parts x [] ys h = inr h

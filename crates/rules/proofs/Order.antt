@@ -71,10 +71,10 @@ accesses b l call.Settle a e ok = grind arith
 pub access_below : (b : Setting) (l : Ledger) (k : Call) (a : Wanted) → access_of k ≡ Some a → refusal b l k ≡ None → a.core < b.figures.cores
 access_below b l (call.Load core word) a e ok =
     let eq : record { core = core; word = word } ≡ a = cc in
-    subst (λ (x : Wanted). x.core < b.figures.cores) eq (load_passes b l core word ok).in-cores
+    subst (λ (x : Wanted). x.core < b.figures.cores) eq (load_passes b l core word ok).in_cores
 access_below b l (call.Store core word value) a e ok =
     let eq : record { core = core; word = word } ≡ a = cc in
-    subst (λ (x : Wanted). x.core < b.figures.cores) eq (store_passes b l core word value ok).in-cores
+    subst (λ (x : Wanted). x.core < b.figures.cores) eq (store_passes b l core word value ok).in_cores
 access_below b l (call.Evict core word) a e ok = grind arith
 access_below b l (call.Acquire core lock) a e ok = grind arith
 access_below b l (call.Release core lock) a e ok = grind arith
@@ -293,8 +293,8 @@ module _ (r q : Ran) (order : SameOrder r q) (S T : Spot r.history) (S' T' : Spo
             cond-true (accepted S.event) (entered (ledger_of S.before) S.event.call) (ledger_of S.before) (ap (λ (o : Option Refusal). not (is_some o)) (ok_r.accepts S.before S.event S.after S.stands))
             ∙ ap (entered (ledger_of S.before)) k
 
-        in-s : stored_in (entered_by (ledger_of S.before) S.event).accesses s.core a.word ≡ true
-        in-s =
+        in_s : stored_in (entered_by (ledger_of S.before) S.event).accesses s.core a.word ≡ true
+        in_s =
             ap (λ (l : Ledger). stored_in l.accesses s.core a.word) entered_here
             ∙ (ap (λ (w : ℕ). stored_in (entered (ledger_of S.before) (call.Store s.core s.word s.value)).accesses s.core w) (sym one_word)
             ∙ stored_now (ledger_of S.before).accesses s.core s.word)
@@ -303,14 +303,14 @@ module _ (r q : Ran) (order : SameOrder r q) (S T : Spot r.history) (S' T' : Spo
         among =
             ap (λ (h : History). stored_in (ledger_of h).accesses s.core a.word) first
             ∙ (ap (λ (l : Ledger). stored_in l.accesses s.core a.word) (folded_append entered_by _ S.before (S.event ∷ M))
-            ∙ stays_stored s.core a.word (entered_by (ledger_of S.before) S.event) M (both_empty (plans_in (plan_of S.event.call)) (plans_of M) no_plans).1 in-s)
+            ∙ stays_stored s.core a.word (entered_by (ledger_of S.before) S.event) M (both_empty (plans_in (plan_of S.event.call)) (plans_of M) no_plans).1 in_s)
 
     -- in a locked strip both accesses would be by the one holder
     not_locked : (lock : ℕ) → mode ≡ locked lock → ⊥
     not_locked lock m = apart one_holder
       where
-        in-locks : lock < 8
-        in-locks = locked_below (bits_of plan (strip_of r.figures a.word)) lock (mod-lt (plan / 16 ^ strip_of r.figures a.word) (lit< tt)) m
+        in_locks : lock < 8
+        in_locks = locked_below (bits_of plan (strip_of r.figures a.word)) lock (mod-lt (plan / 16 ^ strip_of r.figures a.word) (lit< tt)) m
 
         holds_s : ((ledger_of S.before).locks lock).holder ≡ Some s.core
         holds_s = at_s.by_holder lock (mode_s ∙ m)
@@ -319,10 +319,10 @@ module _ (r q : Ran) (order : SameOrder r q) (S T : Spot r.history) (S' T' : Spo
         holds_t = at_t.by_holder lock (mode_t ∙ m)
 
         s_releasers : releasers lock S.before ≡ releasers lock S'.before
-        s_releasers = same_releasers r q order s.core lock in-locks S S' twin_s.place holds_s (at_s'.by_holder lock (mode_s' ∙ m))
+        s_releasers = same_releasers r q order s.core lock in_locks S S' twin_s.place holds_s (at_s'.by_holder lock (mode_s' ∙ m))
 
         t_releasers : releasers lock T.before ≡ releasers lock T'.before
-        t_releasers = same_releasers r q order a.core lock in-locks T T' twin_t.place holds_t (at_t'.by_holder lock (mode_t' ∙ m))
+        t_releasers = same_releasers r q order a.core lock in_locks T T' twin_t.place holds_t (at_t'.by_holder lock (mode_t' ∙ m))
 
         none_between : releasers lock (S.event ∷ M) ≡ []
         none_between =

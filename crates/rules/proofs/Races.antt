@@ -175,10 +175,10 @@ record FoundRace (accesses : List Accessed) (c : Call) (named : ℕ) (kind : Acc
   loads_last : kind ≡ Load → (caller.access ≡ Store) × (earliest Store caller.core caller.word accesses ≡ None)
 
 -- the refusal of a call is one of its rows
-in-first : (rs : List (Option Refusal)) (y : Refusal) → first rs ≡ Some y → In (Some y) rs
-in-first [] y e = grind arith
-in-first (None ∷ rs) y e = inr (in-first rs y e)
-in-first (Some x ∷ rs) y e = inl (sym e)
+in_first : (rs : List (Option Refusal)) (y : Refusal) → first rs ≡ Some y → In (Some y) rs
+in_first [] y e = grind arith
+in_first (None ∷ rs) y e = inr (in_first rs y e)
+in_first (Some x ∷ rs) y e = inl (sym e)
 
 -- and a row of another refusal names no race
 no_row : {X : Type 0} (t : Bool) (x y : Refusal) → (x ≡ y → ⊥) → Some y ≡ when t x → X
@@ -232,22 +232,22 @@ store_found written accesses core word value named kind e = go (earliest Store c
 found_race : (b : Setting) (l : Ledger) (c : Call) (named : ℕ) (kind : Access) → refusal b l c ≡ Some (Race named kind) → FoundRace l.accesses c named kind
 found_race b l (call.Load core word) named kind e =
     (⊎_elim (no_row (leb b.figures.cores core) NoCore (Race named kind) (λ x. grind arith)) (⊎_elim (no_row (leb b.size word) OutsideBoard (Race named kind) (λ x. grind arith)) (⊎_elim (no_row (waits l.locks core) Waiting (Race named kind) (λ x. grind arith)) (⊎_elim (no_row (shut_out l.locks (mode b l word) core) NotHolder (Race named kind) (λ x. grind arith)) (⊎_elim (λ here. load_found (mode b l word) l.accesses core word named kind (sym here)) (λ none. absurd none))))))
-    (in-first (rows b l (call.Load core word)) (Race named kind) e)
+    (in_first (rows b l (call.Load core word)) (Race named kind) e)
 found_race b l (call.Store core word value) named kind e =
     (⊎_elim (no_row (leb b.figures.cores core) NoCore (Race named kind) (λ x. grind arith)) (⊎_elim (no_row (leb b.size word) OutsideBoard (Race named kind) (λ x. grind arith)) (⊎_elim (no_row (waits l.locks core) Waiting (Race named kind) (λ x. grind arith)) (⊎_elim (no_row (is_read_only (mode b l word)) ReadOnly (Race named kind) (λ x. grind arith)) (⊎_elim (no_row (shut_out l.locks (mode b l word) core) NotHolder (Race named kind) (λ x. grind arith)) (⊎_elim (λ here. store_found (mode b l word) l.accesses core word value named kind (sym here)) (⊎_elim (no_row (leb b.figures.allowance (l.counts core)) AllowanceSpent (Race named kind) (λ x. grind arith)) (λ none. absurd none))))))))
-    (in-first (rows b l (call.Store core word value)) (Race named kind) e)
+    (in_first (rows b l (call.Store core word value)) (Race named kind) e)
 found_race b l (call.Evict core word) named kind e =
     (⊎_elim (no_row (leb b.figures.cores core) NoCore (Race named kind) (λ x. grind arith)) (⊎_elim (no_row (leb b.size word) OutsideBoard (Race named kind) (λ x. grind arith)) (λ none. absurd none)))
-    (in-first (rows b l (call.Evict core word)) (Race named kind) e)
+    (in_first (rows b l (call.Evict core word)) (Race named kind) e)
 found_race b l (call.Acquire core lock) named kind e =
     (⊎_elim (no_row (leb b.figures.cores core) NoCore (Race named kind) (λ x. grind arith)) (⊎_elim (no_row (waits l.locks core) Waiting (Race named kind) (λ x. grind arith)) (⊎_elim (no_row (leb 8 lock) NoLock (Race named kind) (λ x. grind arith)) (⊎_elim (no_row (holds_some l.locks core) HoldsLock (Race named kind) (λ x. grind arith)) (λ none. absurd none)))))
-    (in-first (rows b l (call.Acquire core lock)) (Race named kind) e)
+    (in_first (rows b l (call.Acquire core lock)) (Race named kind) e)
 found_race b l (call.Release core lock) named kind e =
     (⊎_elim (no_row (leb b.figures.cores core) NoCore (Race named kind) (λ x. grind arith)) (⊎_elim (no_row (waits l.locks core) Waiting (Race named kind) (λ x. grind arith)) (⊎_elim (no_row (leb 8 lock) NoLock (Race named kind) (λ x. grind arith)) (⊎_elim (no_row (not (holds l.locks core lock)) NotHeld (Race named kind) (λ x. grind arith)) (λ none. absurd none)))))
-    (in-first (rows b l (call.Release core lock)) (Race named kind) e)
+    (in_first (rows b l (call.Release core lock)) (Race named kind) e)
 found_race b l (call.Phase plan) named kind e =
     (⊎_elim (no_row (has_bad_mode plan) BadMode (Race named kind) (λ x. grind arith)) (⊎_elim (no_row (some_held l.locks) LockHeld (Race named kind) (λ x. grind arith)) (λ none. absurd none)))
-    (in-first (rows b l (call.Phase plan)) (Race named kind) e)
+    (in_first (rows b l (call.Phase plan)) (Race named kind) e)
 found_race b l call.Settle named kind e = grind arith
 
 -- ── the law ──

@@ -8,7 +8,7 @@ use Rattle.rules.specs.Effects.{Put, Place, write_back, write_back_by, places, d
 use Rattle.rules.specs.Plans.{Mode, read_only, written, locked, mode_of, is_read_only}
 use Rattle.rules.specs.State.{Copy, invalid, valid, registered, Memory}
 use Rattle.rules.specs.Tables.{upd2}
-use Rattle.rules.proofs.Members.{In, in-places}
+use Rattle.rules.proofs.Members.{In, in_places}
 use Rattle.rules.proofs.Memories.{Sound, Unregistered, write_back_sound, write_back_clears}
 use Rattle.rules.proofs.Rows.{SameLength, Keeps, write_back_length}
 use Rattle.rules.proofs.Tables.{upd2_cases}
@@ -62,7 +62,7 @@ module _ (f : Five) (now : ℕ → Word) (stale : ℕ → ℕ → Type 0) where
       go (Some c) e =
           let here = after.owned w c e in
           let ranged = after.ranged c (slot_of f w) w (now w) here in
-          let no_way : ⊥ = written_back_clears m (places f) (record { core = c; slot = slot_of f w }) (in-places f c (slot_of f w) ranged (mod-lt w some)) s w (now w) here in
+          let no_way : ⊥ = written_back_clears m (places f) (record { core = c; slot = slot_of f w }) (in_places f c (slot_of f w) ranged (mod-lt w some)) s w (now w) here in
           absurd no_way
 
 -- a phase call drops what could be stale: what was not read_only in the phase that ends

@@ -25,7 +25,7 @@ module _ (b : Setting) (l : Ledger) where
   mode word = mode_of b.figures l.plan word
 
   pub record LoadPasses (core word : ℕ) : Type 0 where
-    pub in-cores : core < b.figures.cores
+    pub in_cores : core < b.figures.cores
     pub in_size : word < b.size
     pub awake : waits l.locks core ≡ false
     pub open_to : shut_out l.locks (mode word) core ≡ false
@@ -35,7 +35,7 @@ module _ (b : Setting) (l : Ledger) where
   load_passes core word e =
       let n = none_of (rows b l (call.Load core word)) e in
       record {
-        in-cores = leb-false b.figures.cores core (when_none (leb b.figures.cores core) NoCore n.0);
+        in_cores = leb-false b.figures.cores core (when_none (leb b.figures.cores core) NoCore n.0);
         in_size = leb-false b.size word (when_none (leb b.size word) OutsideBoard n.1.0);
         awake = when_none (waits l.locks core) Waiting n.1.1.0;
         open_to = when_none (shut_out l.locks (mode word) core) NotHolder n.1.1.1.0;
@@ -43,7 +43,7 @@ module _ (b : Setting) (l : Ledger) where
       }
 
   pub record StorePasses (core word : ℕ) : Type 0 where
-    pub in-cores : core < b.figures.cores
+    pub in_cores : core < b.figures.cores
     pub in_size : word < b.size
     pub awake : waits l.locks core ≡ false
     pub writable : is_read_only (mode word) ≡ false
@@ -55,7 +55,7 @@ module _ (b : Setting) (l : Ledger) where
   store_passes core word value e =
       let n = none_of (rows b l (call.Store core word value)) e in
       record {
-        in-cores = leb-false b.figures.cores core (when_none (leb b.figures.cores core) NoCore n.0);
+        in_cores = leb-false b.figures.cores core (when_none (leb b.figures.cores core) NoCore n.0);
         in_size = leb-false b.size word (when_none (leb b.size word) OutsideBoard n.1.0);
         awake = when_none (waits l.locks core) Waiting n.1.1.0;
         writable = when_none (is_read_only (mode word)) ReadOnly n.1.1.1.0;
@@ -65,20 +65,20 @@ module _ (b : Setting) (l : Ledger) where
       }
 
   pub record LockPasses (core lock : ℕ) : Type 0 where
-    pub in-cores : core < b.figures.cores
+    pub in_cores : core < b.figures.cores
     pub awake : waits l.locks core ≡ false
-    pub in-locks : lock < 8
+    pub in_locks : lock < 8
 
   pub acquire_passes : (core lock : ℕ) → refusal b l (call.Acquire core lock) ≡ None → LockPasses core lock × (holds_some l.locks core ≡ false)
   acquire_passes core lock e =
       let n = none_of (rows b l (call.Acquire core lock)) e in (
-        record { in-cores = leb-false b.figures.cores core (when_none (leb b.figures.cores core) NoCore n.0); awake = when_none (waits l.locks core) Waiting n.1.0; in-locks = leb-false 8 lock (when_none (leb 8 lock) NoLock n.1.1.0) },
+        record { in_cores = leb-false b.figures.cores core (when_none (leb b.figures.cores core) NoCore n.0); awake = when_none (waits l.locks core) Waiting n.1.0; in_locks = leb-false 8 lock (when_none (leb 8 lock) NoLock n.1.1.0) },
         when_none (holds_some l.locks core) HoldsLock n.1.1.1.0,
       )
 
   pub release_passes : (core lock : ℕ) → refusal b l (call.Release core lock) ≡ None → LockPasses core lock × (holds l.locks core lock ≡ true)
   release_passes core lock e =
       let n = none_of (rows b l (call.Release core lock)) e in (
-        record { in-cores = leb-false b.figures.cores core (when_none (leb b.figures.cores core) NoCore n.0); awake = when_none (waits l.locks core) Waiting n.1.0; in-locks = leb-false 8 lock (when_none (leb 8 lock) NoLock n.1.1.0) },
+        record { in_cores = leb-false b.figures.cores core (when_none (leb b.figures.cores core) NoCore n.0); awake = when_none (waits l.locks core) Waiting n.1.0; in_locks = leb-false 8 lock (when_none (leb 8 lock) NoLock n.1.1.0) },
         not-false (holds l.locks core lock) (when_none (not (holds l.locks core lock)) NotHeld n.1.1.1.0),
       )

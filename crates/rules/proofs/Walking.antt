@@ -130,7 +130,7 @@ module _ (b : Setting) (fits : Fits b) (old : ℕ → Word) where
 
     -- an accepted store is now the last to its word
     store_told : (core word value : ℕ) → e.call ≡ call.Store core word value → refused_with e.answer ≡ None → core < 8 → l.counts core < 1000000 → Told b old (upd now word (record { value = value; mark = next_mark l core })) (entered l (call.Store core word value)) (h ++ (e ∷ []))
-    store_told core word value is_IsStore a in-cores unspent =
+    store_told core word value is_IsStore a in_cores unspent =
         record {
           ledger = subst (λ (c : Call). entered l c ≡ ledger_of (h ++ (e ∷ []))) is_IsStore (entered_told a);
           counts = λ w c. ap (λ (t : Tracked). t.counts c) (moved w) ∙ counts_moved w c;
@@ -175,7 +175,7 @@ module _ (b : Setting) (fits : Fits b) (old : ℕ → Word) where
 
             mark_is : number (next_mark l core) ≡ mark_of core ((tracked w h).counts core + 1)
             mark_is =
-                number_mark_at (mark_of core (l.counts core + 1)) (stores_lawful core (l.counts core + 1) (in-cores, omega arith, omega arith))
+                number_mark_at (mark_of core (l.counts core + 1)) (stores_lawful core (l.counts core + 1) (in_cores, omega arith, omega arith))
                 ∙ ap (mark_of core) (sym counted_alike)
 
             go : (t : Bool) → eqb word w ≡ t → Fresh (cond t (Some (record { core = core; count = (tracked w h).counts core + 1; value = value })) (last_store w h)) (old w) (upd now word new w)
@@ -206,7 +206,7 @@ module _ (b : Setting) (fits : Fits b) (old : ℕ → Word) where
             let p = store_passes b l core word value r in
             let few = fits.cores in
             let allowed = fits.allowance in
-            let below = p.in-cores in
+            let below = p.in_cores in
             let spent = p.unspent in
             store_told core word value q unrefused (omega arith) (omega arith)
         go (call.Evict core word) q r = plain (call.Evict core word) q refl

@@ -1,5 +1,7 @@
 //! The rules of the board as definitions, and the laws of whole runs proved on them. It has no code of its own: each function
 //! here says by its contract that a statement of specs/ is proved, so that without its proof the crate fails.
+#![tactic(auto)]
+
 ghost use Rattle.rules.specs.Cases.{AllSay, cases};
 ghost use Rattle.rules.specs.Examples.{SamplePlays, TwoOrders, OldCopyFetched};
 ghost use Rattle.rules.specs.Laws.{NoStale, EqualLoads, SettledPages, OrderDecides, RefusalsTold, RacesNamed};

@@ -3,7 +3,7 @@
 use Rattle.std.proofs.Common.{◌≡◌, ℕ, ◌<◌, ◌≤◌, true, not, ◌&&◌, eqb, ltb, sym, ap, ◌∙◌, subst, ⊎_elim, arith}
 use Rattle.std.proofs.lemmas.Bool.{cases_eq, cases_lt, eqb-true, eqb-false, lt-ltb, le-ltb, and_parts, or_cases, not-true}
 use Rattle.sets.specs.Sentences.{Sets, InRange, OthersUnaltered, Put, TakenIn, Cleared, Within}
-use Rattle.sets.specs.Rows.{in-range, added, joined, emptied, words_put, rows_taken_in, rows_cleared}
+use Rattle.sets.specs.Rows.{in_range, added, joined, emptied, words_put, rows_taken_in, rows_cleared}
 use Rattle.sets.proofs.Ranges.{below_cases, below_true, below_false}
 use Rattle.sets.proofs.Sentences.{chosen_true, chosen_false}
 
@@ -24,12 +24,12 @@ least_put g g' h h' c w is put within d v p = ⊎_elim inside outside (below_cas
         let core : d ≡ c = eqb-true d c parts.0 in
         let word : v ≡ w = eqb-true v w parts.1 in
         (λ i. h' (core i) (word i)) ∙ put.named range)
-        (or_cases (g d v) (eqb d c && eqb v w) (sym (is d v ∙ chosen_true (in-range c w) (added g c w) g d v (below_true c 8 w 4096 range)) ∙ p))
+        (or_cases (g d v) (eqb d c && eqb v w) (sym (is d v ∙ chosen_true (in_range c w) (added g c w) g d v (below_true c 8 w 4096 range)) ∙ p))
 
     outside : (InRange c w → ⊥) → h' d v ≡ true
     outside range =
         put.outside range d v ∙
-        within d v (sym (is d v ∙ chosen_false (in-range c w) (added g c w) g d v (below_false c 8 w 4096 range)) ∙ p)
+        within d v (sym (is d v ∙ chosen_false (in_range c w) (added g c w) g d v (below_false c 8 w 4096 range)) ∙ p)
 
 -- a take in
 pub least_take_in : (g g' h h' : Sets) (c e : ℕ) → ((d v : ℕ) → g' d v ≡ rows_taken_in g c e d v) → TakenIn h h' c e → Within g h → Within g' h'

@@ -4,7 +4,7 @@ use Rattle.std.proofs.Common.{◌≡◌, ℕ, ◌+◌, ◌*◌, ◌/◌, ◌<◌
 use Rattle.std.proofs.lemmas.Nat.{mod_below}
 use Rattle.std.proofs.lemmas.Bool.{cases_lt, lt-ltb, le-ltb, and_from, and_left, and_right, ltb-true, and_parts}
 use Rattle.sets.specs.Sentences.{Sets}
-use Rattle.sets.specs.Rows.{in-range, added, joined, emptied, first_bit, second_bit}
+use Rattle.sets.specs.Rows.{in_range, added, joined, emptied, first_bit, second_bit}
 use Rattle.sets.specs.Tables.{rows_of, with_bit, with_joined, with_emptied}
 use Rattle.sets.proofs.Rows.{rows_with_bit, rows_joined, rows_emptied}
 
@@ -30,13 +30,13 @@ chosen_holds holds true after before sets h d v = h refl d v
 chosen_holds holds false after before sets h d v = refl
 
 -- a word's bit set in the exact table, in the ranges
-pub rows_word : (table : List ℕ) (c w : ℕ) → length table ≡ 512 → in-range c w ≡ true → (d v : ℕ) →
+pub rows_word : (table : List ℕ) (c w : ℕ) → length table ≡ 512 → in_range c w ≡ true → (d v : ℕ) →
     rows_of 64 (with_bit table (c * 64) w) d v ≡ added (rows_of 64 table) c w d v
 rows_word table c w size range d v =
     let p = and_parts (ltb c 8) (ltb w 4096) range in rows_with_bit 64 table c w d v size (ltb-true c 8 p.0) (ltb-true w 4096 p.1)
 
 -- a word's two bits set in the Bloom table, in the ranges
-pub rows_bits : (table : List ℕ) (c w : ℕ) → length table ≡ 32 → in-range c w ≡ true → (d x : ℕ) →
+pub rows_bits : (table : List ℕ) (c w : ℕ) → length table ≡ 32 → in_range c w ≡ true → (d x : ℕ) →
     rows_of 4 (with_bit (with_bit table (c * 4) (first_bit w)) (c * 4) (second_bit w)) d x ≡
     added (added (rows_of 4 table) c (first_bit w)) c (second_bit w) d x
 rows_bits table c w size range d x =

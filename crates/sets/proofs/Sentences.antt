@@ -3,7 +3,7 @@
 use Rattle.std.proofs.Common.{◌≡◌, ℕ, ◌<◌, ◌≤◌, Bool, true, false, cond, not, ◌&&◌, ◌||◌, eqb, ltb, List, sym, refl, ap, ◌∙◌, ⊎_elim}
 use Rattle.std.proofs.lemmas.Bool.{eq-eqb, ne_eqb, lt-ltb, le-ltb, cases_lt, and_from, and_parts, or_left, or_right, ltb-true}
 use Rattle.sets.specs.Sentences.{Sets, InRange, Put, TakenIn, Cleared, Bounded}
-use Rattle.sets.specs.Rows.{in-range, added, joined, emptied, words_put, bits_put, rows_taken_in, rows_cleared, words_of_bits, first_bit, second_bit}
+use Rattle.sets.specs.Rows.{in_range, added, joined, emptied, words_put, bits_put, rows_taken_in, rows_cleared, words_of_bits, first_bit, second_bit}
 use Rattle.sets.specs.Tables.{rows_of}
 use Rattle.sets.proofs.Ranges.{below_cases, below_true, below_false}
 
@@ -69,7 +69,7 @@ words_puts g g' c w is = ⊎_elim inside outside (below_cases c 8 w 4096)
   where
     inside : InRange c w → Put g g' c w
     inside p =
-        let at : (d v : ℕ) → g' d v ≡ added g c w d v = λ d v. is d v ∙ chosen_true (in-range c w) (added g c w) g d v (below_true c 8 w 4096 p) in
+        let at : (d v : ℕ) → g' d v ≡ added g c w d v = λ d v. is d v ∙ chosen_true (in_range c w) (added g c w) g d v (below_true c 8 w 4096 p) in
         record {
           named = λ _. at c w ∙ or_right (g c w) _ (and_from (eqb c c) (eqb w w) (eq-eqb c c refl) (eq-eqb w w refl));
           kept = λ v h. at c v ∙ or_left (g c v) _ h;
@@ -79,7 +79,7 @@ words_puts g g' c w is = ⊎_elim inside outside (below_cases c 8 w 4096)
 
     outside : (InRange c w → ⊥) → Put g g' c w
     outside p =
-        let at : (d v : ℕ) → g' d v ≡ g d v = λ d v. is d v ∙ chosen_false (in-range c w) (added g c w) g d v (below_false c 8 w 4096 p) in
+        let at : (d v : ℕ) → g' d v ≡ g d v = λ d v. is d v ∙ chosen_false (in_range c w) (added g c w) g d v (below_false c 8 w 4096 p) in
         record { named = λ q. absurd (p q); kept = λ v h. at c v ∙ h; others = λ d v ne. at d v; outside = λ _ d v. at d v }
 
 -- a word whose two bits are set is held
@@ -134,7 +134,7 @@ bits_puts b b' c w is = ⊎_elim inside outside (below_cases c 8 w 4096)
     inside : InRange c w → Put (words_of_bits b) (words_of_bits b') c w
     inside p =
         let at : (d x : ℕ) → b' d x ≡ added once c (second_bit w) d x =
-        λ d x. is d x ∙ chosen_true (in-range c w) (added once c (second_bit w)) b d x (below_true c 8 w 4096 p) in
+        λ d x. is d x ∙ chosen_true (in_range c w) (added once c (second_bit w)) b d x (below_true c 8 w 4096 p) in
         record {
           named = λ _. held b' c w p.1
               (at c (first_bit w) ∙ or_left (once c (first_bit w)) _ (or_right (b c (first_bit w)) _ (own (first_bit w))))
@@ -147,7 +147,7 @@ bits_puts b b' c w is = ⊎_elim inside outside (below_cases c 8 w 4096)
     outside : (InRange c w → ⊥) → Put (words_of_bits b) (words_of_bits b') c w
     outside p =
         let at : (d x : ℕ) → b' d x ≡ b d x =
-        λ d x. is d x ∙ chosen_false (in-range c w) (added once c (second_bit w)) b d x (below_false c 8 w 4096 p) in
+        λ d x. is d x ∙ chosen_false (in_range c w) (added once c (second_bit w)) b d x (below_false c 8 w 4096 p) in
         record {
           named = λ q. absurd (p q);
           kept = λ v h. words_same b b' c (at c) v ∙ h;

@@ -16,8 +16,8 @@ abbrev pub emptied : Sets → ℕ → Sets
 emptied rows core d x = not (d == core) && rows d x
 
 -- the test of the ranges: a core 0 to 7 and a word 0 to 4,095
-abbrev pub in-range : ℕ → ℕ → Bool
-in-range core word = nat_lt core 8 && nat_lt word 4096
+abbrev pub in_range : ℕ → ℕ → Bool
+in_range core word = nat_lt core 8 && nat_lt word 4096
 
 -- what take in leaves in both signatures: the rows joined, and out of range the rows as they were
 abbrev pub rows_taken_in : Sets → ℕ → ℕ → Sets
@@ -29,7 +29,7 @@ rows_cleared rows core = cond (nat_lt core 8) (emptied rows core) rows
 
 -- what put leaves in the exact signature: the named word added, and out of range the rows as they were
 abbrev pub words_put : Sets → ℕ → ℕ → Sets
-words_put rows core word = cond (in-range core word) (added rows core word) rows
+words_put rows core word = cond (in_range core word) (added rows core word) rows
 
 -- the first of the two bits of a word in the Bloom signature
 abbrev pub first_bit : ℕ → ℕ
@@ -41,7 +41,7 @@ second_bit word = (word / 16 + 7 * word) % 256
 
 -- what put leaves in the Bloom signature: the word's two bits set, and out of range the bits as they were
 abbrev pub bits_put : Sets → ℕ → ℕ → Sets
-bits_put rows core word = cond (in-range core word) (added (added rows core (first_bit word)) core (second_bit word)) rows
+bits_put rows core word = cond (in_range core word) (added (added rows core (first_bit word)) core (second_bit word)) rows
 
 -- the words that the Bloom signature holds by its bits: those of the range whose two bits are both set
 abbrev pub words_of_bits : Sets → Sets

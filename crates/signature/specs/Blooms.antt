@@ -4,7 +4,7 @@ use Rattle.std.specs.Prelude.{◌≡◌, ℕ, ◌*◌, cond, ◌&&◌, replicate
 use Rattle.std.proofs.Common.{◌∙◌, length-set}
 use Rattle.std.proofs.lemmas.List.{length-replicate}
 use Rattle.sets.specs.Sentences.{Sets, Put, TakenIn, Cleared, Bounded}
-use Rattle.sets.specs.Rows.{in-range, first_bit, second_bit, added, bits_put, rows_taken_in, rows_cleared, words_of_bits}
+use Rattle.sets.specs.Rows.{in_range, first_bit, second_bit, added, bits_put, rows_taken_in, rows_cleared, words_of_bits}
 use Rattle.sets.specs.Rows as rows
 use Rattle.sets.specs.Tables.{rows_of, with_bit, with_joined, with_emptied}
 use Rattle.sets.proofs.Ranges.{chosen_holds, rows_bits, rows_join, rows_clear}
@@ -43,7 +43,7 @@ emptied s core = record { words = with_emptied s.words (core * 4) 4; full = leng
 
 -- after a put: the word's two bits are set; out of range it is as it was
 abbrev pub put : Bloom → ℕ → ℕ → Bloom
-put s core word = cond (in-range core word) (with_word s core word) s
+put s core word = cond (in_range core word) (with_word s core word) s
 
 -- after a take in: the core's row is joined with the other core's; out of range it is as it was
 abbrev pub taken_in : Bloom → ℕ → ℕ → Bloom
@@ -57,7 +57,7 @@ cleared s core = cond (nat_lt core 8) (emptied s core) s
 pub put_bits : (s : Bloom) (core word d x : ℕ) → bits (put s core word) d x ≡ bits_put (bits s) core word d x
 unfolding with_word
 put_bits s core word =
-    chosen_holds bits (in-range core word) (with_word s core word) s (added (added (bits s) core (first_bit word)) core (second_bit word))
+    chosen_holds bits (in_range core word) (with_word s core word) s (added (added (bits s) core (first_bit word)) core (second_bit word))
     (rows_bits s.words core word s.full)
 
 -- after a take in the other core's bits are set in the core's row, and no other

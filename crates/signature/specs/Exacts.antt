@@ -4,7 +4,7 @@ use Rattle.std.specs.Prelude.{◌≡◌, ℕ, ◌*◌, cond, ◌&&◌, replicate
 use Rattle.std.proofs.Common.{◌∙◌, length-set}
 use Rattle.std.proofs.lemmas.List.{length-replicate}
 use Rattle.sets.specs.Sentences.{Sets, Put, TakenIn, Cleared, Bounded}
-use Rattle.sets.specs.Rows.{in-range, added, words_put, rows_taken_in, rows_cleared}
+use Rattle.sets.specs.Rows.{in_range, added, words_put, rows_taken_in, rows_cleared}
 use Rattle.sets.specs.Rows as rows
 use Rattle.sets.specs.Tables.{rows_of, with_bit, with_joined, with_emptied}
 use Rattle.sets.proofs.Ranges.{chosen_holds, rows_word, rows_join, rows_clear}
@@ -35,7 +35,7 @@ emptied s core = record { words = with_emptied s.words (core * 64) 64; full = le
 
 -- after a put: the word's bit is set; out of range it is as it was
 abbrev pub put : Exact → ℕ → ℕ → Exact
-put s core word = cond (in-range core word) (with_word s core word) s
+put s core word = cond (in_range core word) (with_word s core word) s
 
 -- after a take in: the core's row is joined with the other core's; out of range it is as it was
 abbrev pub taken_in : Exact → ℕ → ℕ → Exact
@@ -49,7 +49,7 @@ cleared s core = cond (nat_lt core 8) (emptied s core) s
 pub put_holds : (s : Exact) (core word d v : ℕ) → held (put s core word) d v ≡ words_put (held s) core word d v
 unfolding with_word
 put_holds s core word =
-    chosen_holds held (in-range core word) (with_word s core word) s (added (held s) core word) (rows_word s.words core word s.full)
+    chosen_holds held (in_range core word) (with_word s core word) s (added (held s) core word) (rows_word s.words core word s.full)
 
 -- after a take in the core's set has the other core's words more, and no other
 pub taken_in_holds : (s : Exact) (core other d v : ℕ) → held (taken_in s core other) d v ≡ rows_taken_in (held s) core other d v

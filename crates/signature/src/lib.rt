@@ -1,5 +1,6 @@
 //! Signatures: for each core the set of words that it has to fetch again. The interface by its sentences, the exact signature
 //! and the Bloom signature.
+#![tactic(auto)]
 
 pub mod bloom;
 pub mod change;

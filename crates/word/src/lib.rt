@@ -1,4 +1,5 @@
 //! Words of the page and their marks, as the types that every other crate builds on.
+#![tactic(auto)]
 
 pub mod mark;
 pub mod word;

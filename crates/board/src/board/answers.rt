@@ -57,7 +57,7 @@ fn of_phase(dropped: Result<u16, Refusal>) -> Answer
 impl<P: PageStore, S: Signature> Board<P, S> {
     /// Makes a call, and gives its answer, accepted or refused.
     pub fn answer(&mut self, call: Call) -> Answer
-        ensures { Obeys words (operations holds put_of take_in_of clear_of) self.old self.new call result }
+        ensures { Obeys P.words (operations S.holds S.put_of S.take_in_of S.clear_of) self.old self.new call result }
     {
         match call {
             Call::Load(core, word) => of_load(self.load(core, word)),
@@ -73,7 +73,7 @@ impl<P: PageStore, S: Signature> Board<P, S> {
     /// Makes a call, and gives the record of it: who called, what kind of call, and its answer.
     pub fn record(&mut self, call: Call) -> AnswerRecord
         ensures value { result ≡ record_of call result.answer }
-        ensures obeys { Obeys words (operations holds put_of take_in_of clear_of) self.old self.new call result.answer }
+        ensures obeys { Obeys P.words (operations S.holds S.put_of S.take_in_of S.clear_of) self.old self.new call result.answer }
     {
         AnswerRecord::of(call, self.answer(call))
     }

@@ -29,7 +29,7 @@ impl<P: PageStore, S: Signature> Board<P, S> {
     // A load that no check refuses.
     fn give(&mut self, core: u8, word: u16) -> (Word, u8)
         requires { (core < 8) × (word < 4096) }
-        ensures { Performs words (operations holds put_of take_in_of clear_of) self.old self.new (Load core word) (Loaded result.0 result.1) }
+        ensures { Performs P.words (operations S.holds S.put_of S.take_in_of S.clear_of) self.old self.new (Load core word) (Loaded result.0 result.1) }
     {
         let again = self.may_be_old(core, word);
         let found = self.memory.load(core_at(core), place_at(word), again);
@@ -41,7 +41,7 @@ impl<P: PageStore, S: Signature> Board<P, S> {
     /// no such core, 2 no such word, 3 the core waits, 5 the strip is locked and the core does not hold its lock, 6 another core
     /// stored the word in this phase of a written strip.
     pub fn load(&mut self, core: u8, word: u16) -> Result<(Word, u8), Refusal>
-        ensures { Obeys words (operations holds put_of take_in_of clear_of) self.old self.new (Load core word) (of_load result) }
+        ensures { Obeys P.words (operations S.holds S.put_of S.take_in_of S.clear_of) self.old self.new (Load core word) (of_load result) }
     {
         self.check_load(core, word)?;
         Ok(self.give(core, word))

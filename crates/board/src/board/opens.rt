@@ -45,10 +45,10 @@ impl<P: PageStore, S: Signature> Board<P, S> {
     /// strip is read-only. It is never refused.
     pub fn open(figures: Figures, page: P, mut signature: S) -> Board<P, S>
         ensures figures { result.memory.figures ≡ figures }
-        ensures size { result.size ≡ size_of (numbers figures) (words page) }
-        ensures state { view words result [] ≡ opening (numbers figures) (words page) }
+        ensures size { result.size ≡ size_of (numbers figures) (P.words page) }
+        ensures state { view P.words result [] ≡ opening (numbers figures) (P.words page) }
         ensures remembers { Remembers result.races [] }
-        ensures signature { result.signature ≡ changed_by (operations holds put_of take_in_of clear_of) signature clear_all }
+        ensures signature { result.signature ≡ changed_by (operations S.holds S.put_of S.take_in_of S.clear_of) signature clear_all }
     {
         let memory = Memory::open(figures, page);
         let size = memory.size();

@@ -67,8 +67,8 @@ impl<P: PageStore> Memory<P> {
     /// many copies are dropped.
     pub fn fade(&mut self, plan: u64) -> u16
         ensures figures { self.new.figures ≡ self.old.figures }
-        ensures answer { result ≡ (rule (five_of self.old) plan (view words self.old)).answer }
-        ensures after { view words self.new ≡ (rule (five_of self.old) plan (view words self.old)).memory }
+        ensures answer { result ≡ (rule (five_of self.old) plan (view P.words self.old)).answer }
+        ensures after { view P.words self.new ≡ (rule (five_of self.old) plan (view P.words self.old)).memory }
     {
         let figures = self.figures;
         fade_all(&figures, plan, &mut self.entries)

@@ -26,8 +26,8 @@ pub(super) fn blank_word() -> Word
 
 // The page's word at a place; past the page's end it reads as a blank word.
 pub(super) fn page_word<P: PageStore>(page: &mut P, word: u16) -> Word
-    ensures answer { result ≡ slice_index_or (words page.old) word blank_word }
-    ensures same { words page.new ≡ words page.old }
+    ensures answer { result ≡ slice_index_or (P.words page.old) word blank_word }
+    ensures same { P.words page.new ≡ P.words page.old }
 {
     match page.read(word) {
         Ok(x) => x,
@@ -39,12 +39,12 @@ impl<P: PageStore> Memory<P> {
     // A word as its owner has it or, without an owner, as it is on the page, and which of the two.
     fn current(&mut self, word: u16) -> (Word, u8)
         requires { word < 4096 }
-        ensures word { result.0 ≡ word_by (slice_index_or self.old.owners word None) (five_of self.old) (words self.old.page) self.old.entries word }
+        ensures word { result.0 ≡ word_by (slice_index_or self.old.owners word None) (five_of self.old) (P.words self.old.page) self.old.entries word }
         ensures source { result.1 ≡ source_by (slice_index_or self.old.owners word None) }
         ensures figures { self.new.figures ≡ self.old.figures }
         ensures entries { self.new.entries ≡ self.old.entries }
         ensures owners { self.new.owners ≡ self.old.owners }
-        ensures page { words self.new.page ≡ words self.old.page }
+        ensures page { P.words self.new.page ≡ P.words self.old.page }
     {
         match self.owner_at(word) {
             Some(owner) => (self.entries[self.seat(owner, word)].word, 2),
@@ -58,7 +58,7 @@ impl<P: PageStore> Memory<P> {
         ensures figures { self.new.figures ≡ self.old.figures }
         ensures entries { self.new.entries ≡ slice_set self.old.entries (seat core (slot_of (five_of self.old) word)) (record { state = Valid; place = word; word = found }) }
         ensures owners { self.new.owners ≡ self.old.owners }
-        ensures page { words self.new.page ≡ words self.old.page }
+        ensures page { P.words self.new.page ≡ P.words self.old.page }
     {
         let at = self.seat(core, word);
         self.entries[at] = Entry {
@@ -72,9 +72,9 @@ impl<P: PageStore> Memory<P> {
     fn fetch(&mut self, core: u8, word: u16) -> (Word, u8)
         requires { (core < 8) × (word < 4096) }
         ensures figures { self.new.figures ≡ self.old.figures }
-        ensures word { result.0 ≡ (fetched (five_of self.old) (view words self.old) core word).word }
-        ensures source { result.1 ≡ (fetched (five_of self.old) (view words self.old) core word).source }
-        ensures after { view words self.new ≡ (fetched (five_of self.old) (view words self.old) core word).memory }
+        ensures word { result.0 ≡ (fetched (five_of self.old) (view P.words self.old) core word).word }
+        ensures source { result.1 ≡ (fetched (five_of self.old) (view P.words self.old) core word).source }
+        ensures after { view P.words self.new ≡ (fetched (five_of self.old) (view P.words self.old) core word).memory }
     {
         let slot = self.slot(word);
         let _ = self.write_back(core, slot);
@@ -88,9 +88,9 @@ impl<P: PageStore> Memory<P> {
     /// written to the page first.
     pub fn load(&mut self, core: Core, word: Place, again: bool) -> (Word, u8)
         ensures figures { self.new.figures ≡ self.old.figures }
-        ensures word { result.0 ≡ (rule (five_of self.old) (view words self.old) again core.number word.number).word }
-        ensures source { result.1 ≡ (rule (five_of self.old) (view words self.old) again core.number word.number).source }
-        ensures after { view words self.new ≡ (rule (five_of self.old) (view words self.old) again core.number word.number).memory }
+        ensures word { result.0 ≡ (rule (five_of self.old) (view P.words self.old) again core.number word.number).word }
+        ensures source { result.1 ≡ (rule (five_of self.old) (view P.words self.old) again core.number word.number).source }
+        ensures after { view P.words self.new ≡ (rule (five_of self.old) (view P.words self.old) again core.number word.number).memory }
     {
         let (state, held) = self.found(core.number(), word.number());
         match (state, again) {

@@ -44,7 +44,7 @@ fn without_mark(x: Word) -> Word
 
 // The word at a place loses its mark. The place is below the page's size, so the write is done and its answer may be let go.
 fn unmark_at<P: PageStore>(page: &mut P, word: u16)
-    ensures { words page.new ≡ slice_set (words page.old) word (unmarked (slice_index_or (words page.old) word blank_word)) }
+    ensures { P.words page.new ≡ slice_set (P.words page.old) word (unmarked (slice_index_or (P.words page.old) word blank_word)) }
 {
     let old = page_word(page, word);
     let _ = page.write(word, without_mark(old));
@@ -52,8 +52,8 @@ fn unmark_at<P: PageStore>(page: &mut P, word: u16)
 
 // The first words of a page lose their marks, in rising order.
 fn unmark<P: PageStore>(page: &mut P, size: u16)
-    requires { size ≤ length (words page.old) }
-    ensures { words page.new ≡ opened size (words page.old) }
+    requires { size ≤ length (P.words page.old) }
+    ensures { P.words page.new ≡ opened size (P.words page.old) }
 {
     for word in 0..size {
         unmark_at(page, word);
@@ -62,8 +62,8 @@ fn unmark<P: PageStore>(page: &mut P, size: u16)
 
 // How many words of a page a board uses: as many as its figures allow and the page has.
 pub(super) fn size_with<P: PageStore>(figures: &Figures, page: &P) -> u16
-    ensures value { result ≡ size_of (numbers figures.now) (words page.now) }
-    ensures inside { result ≤ length (words page.now) }
+    ensures value { result ≡ size_of (numbers figures.now) (P.words page.now) }
+    ensures inside { result ≤ length (P.words page.now) }
     ensures most { result ≤ 4096 }
 {
     let allowed = figures.words();
@@ -76,7 +76,7 @@ impl<P: PageStore> Memory<P> {
     /// mark, in rising order; words from there on stay.
     pub fn open(figures: Figures, mut page: P) -> Memory<P>
         ensures figures { result.figures ≡ figures }
-        ensures after { view words result ≡ empty_caches (opened (size_of (numbers figures) (words page)) (words page)) }
+        ensures after { view P.words result ≡ empty_caches (opened (size_of (numbers figures) (P.words page)) (P.words page)) }
     {
         let size = size_with(&figures, &page);
         unmark(&mut page, size);

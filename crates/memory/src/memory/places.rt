@@ -40,7 +40,7 @@ impl<P: PageStore> Memory<P> {
     // The copy of a word in a core's cache: its state, and the word that it holds.
     pub(super) fn found(&self, core: u8, word: u16) -> (State, Word)
         requires { core < 8 }
-        ensures { copy_of (five_of self.now) (view words self.now) core word ≡ copy_by result.0 word result.1 }
+        ensures { copy_of (five_of self.now) (view P.words self.now) core word ≡ copy_by result.0 word result.1 }
     {
         let held = self.entries[self.seat(core, word)];
         (held.state_for(word), held.word)

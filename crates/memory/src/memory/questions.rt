@@ -23,7 +23,7 @@ impl<P: PageStore> Memory<P> {
 
     /// How many words it has: as many as its figures allow and its page has.
     pub fn size(&self) -> u16
-        ensures value { result ≡ size_of (five_of self.now) (words self.now.page) }
+        ensures value { result ≡ size_of (five_of self.now) (P.words self.now.page) }
         ensures most { result ≤ 4096 }
     {
         size_with(&self.figures, &self.page)
@@ -31,7 +31,7 @@ impl<P: PageStore> Memory<P> {
 
     /// The core that owns a word, if there is one. A word past the table has no owner.
     pub fn owner(&self, word: u16) -> Option<u8>
-        ensures { result ≡ (view words self.now).owners word }
+        ensures { result ≡ (view P.words self.now).owners word }
     {
         if word < 4_096 {
             self.owner_at(word)
@@ -42,16 +42,16 @@ impl<P: PageStore> Memory<P> {
 
     /// The page's word at a place, whoever owns it; past the page's end a blank word.
     pub fn peek_word(&mut self, word: u16) -> Word
-        ensures answer { result ≡ page_word (view words self.old) word }
+        ensures answer { result ≡ page_word (view P.words self.old) word }
         ensures figures { self.new.figures ≡ self.old.figures }
-        ensures after { view words self.new ≡ view words self.old }
+        ensures after { view P.words self.new ≡ view P.words self.old }
     {
         page_word(&mut self.page, word)
     }
 
     // 1 for a word with an owner, 0 for one without.
     fn counted(&self, word: u16) -> u16
-        ensures value { result ≡ cond {A = ℕ} (is_some ((view words self.now).owners word)) 1 0 }
+        ensures value { result ≡ cond {A = ℕ} (is_some ((view P.words self.now).owners word)) 1 0 }
         ensures small { result ≤ 1 }
     {
         match self.owner(word) {
@@ -62,7 +62,7 @@ impl<P: PageStore> Memory<P> {
 
     /// How many words have an owner.
     pub fn owned(&self) -> u16
-        ensures { result ≡ owned_among (view words self.now) (below (size_of (five_of self.now) (words self.now.page))) }
+        ensures { result ≡ owned_among (view P.words self.now) (below (size_of (five_of self.now) (P.words self.now.page))) }
     {
         let size = self.size();
         self.owned_below(size)
@@ -70,7 +70,7 @@ impl<P: PageStore> Memory<P> {
 
     /// How many of the first words have an owner.
     pub fn owned_below(&self, size: u16) -> u16
-        ensures { result ≡ owned_among (view words self.now) (below size) }
+        ensures { result ≡ owned_among (view P.words self.now) (below size) }
     {
         let mut owned = 0;
         for word in 0..size {

@@ -31,7 +31,7 @@ impl<P: PageStore> Memory<P> {
         requires { at < 512 }
         ensures figures { self.new.figures ≡ self.old.figures }
         ensures rest { (k : ℕ) → at < k → slice_index_or self.new.entries k empty ≡ slice_index_or self.old.entries k empty }
-        ensures after { view words self.new ≡ (if has (five_of self.old) at then write_back (view words self.old) (at / 64) (at % 64) else view words self.old) }
+        ensures after { view P.words self.new ≡ (if has (five_of self.old) at then write_back (view P.words self.old) (at / 64) (at % 64) else view P.words self.old) }
         ensures answer { result ≡ cond {A = ℕ} (has (five_of self.old) at && is_registered (get_or self.old.entries at empty).state) 1 0 }
     {
         if self.within(at) && self.write_back((at / 64) as u8, (at % 64) as u8) {
@@ -45,8 +45,8 @@ impl<P: PageStore> Memory<P> {
     /// owner any more. How many there were.
     pub fn settle(&mut self) -> u16
         ensures figures { self.new.figures ≡ self.old.figures }
-        ensures answer { result ≡ (rule (five_of self.old) (view words self.old)).answer }
-        ensures after { view words self.new ≡ (rule (five_of self.old) (view words self.old)).memory }
+        ensures answer { result ≡ (rule (five_of self.old) (view P.words self.old)).answer }
+        ensures after { view P.words self.new ≡ (rule (five_of self.old) (view P.words self.old)).memory }
     {
         let mut settled = 0;
         for at in 0..512 {

@@ -17,9 +17,9 @@ use word::Word;
 impl<P: PageStore> Memory<P> {
     // The registered copy of a word takes another word.
     fn rewrite(&mut self, core: u8, word: u16, stored: Word)
-        requires { (core < 8) × ((word < 4096) × (counts (copy_of (five_of self.old) (view words self.old) core word) ≡ true)) }
+        requires { (core < 8) × ((word < 4096) × (counts (copy_of (five_of self.old) (view P.words self.old) core word) ≡ true)) }
         ensures figures { self.new.figures ≡ self.old.figures }
-        ensures after { view words self.new ≡ with_copy (view words self.old) core (slot_of (five_of self.old) word) (registered word stored) }
+        ensures after { view P.words self.new ≡ with_copy (view P.words self.old) core (slot_of (five_of self.old) word) (registered word stored) }
     {
         let at = self.seat(core, word);
         self.entries[at] = Entry {
@@ -35,7 +35,7 @@ impl<P: PageStore> Memory<P> {
         ensures figures { self.new.figures ≡ self.old.figures }
         ensures entries { self.new.entries ≡ slice_set self.old.entries (seat core (slot_of (five_of self.old) word)) (record { state = Registered; place = word; word = stored }) }
         ensures owners { self.new.owners ≡ slice_set self.old.owners word (Some core) }
-        ensures page { words self.new.page ≡ words self.old.page }
+        ensures page { P.words self.new.page ≡ P.words self.old.page }
     {
         let at = self.seat(core, word);
         self.entries[at] = Entry {
@@ -53,7 +53,7 @@ impl<P: PageStore> Memory<P> {
         ensures figures { self.new.figures ≡ self.old.figures }
         ensures entries { self.new.entries ≡ taken_by (slice_index_or self.old.owners word None) (five_of self.old) self.old.entries word }
         ensures owners { self.new.owners ≡ slice_set self.old.owners word None }
-        ensures page { words self.new.page ≡ words self.old.page }
+        ensures page { P.words self.new.page ≡ P.words self.old.page }
     {
         match self.owner_at(word) {
             None => 1,
@@ -70,8 +70,8 @@ impl<P: PageStore> Memory<P> {
     fn claim(&mut self, core: u8, word: u16, stored: Word) -> u8
         requires { (core < 8) × (word < 4096) }
         ensures figures { self.new.figures ≡ self.old.figures }
-        ensures answer { result ≡ (claimed (five_of self.old) (view words self.old) core word stored).answer }
-        ensures after { view words self.new ≡ (claimed (five_of self.old) (view words self.old) core word stored).memory }
+        ensures answer { result ≡ (claimed (five_of self.old) (view P.words self.old) core word stored).answer }
+        ensures after { view P.words self.new ≡ (claimed (five_of self.old) (view P.words self.old) core word stored).memory }
     {
         let slot = self.slot(word);
         let _ = self.write_back(core, slot);
@@ -84,8 +84,8 @@ impl<P: PageStore> Memory<P> {
     /// another core owned, whose copy is gone then. The core owns the word from now on.
     pub fn store(&mut self, core: Core, word: Place, stored: Word) -> u8
         ensures figures { self.new.figures ≡ self.old.figures }
-        ensures answer { result ≡ (rule (five_of self.old) (view words self.old) core.number word.number stored).answer }
-        ensures after { view words self.new ≡ (rule (five_of self.old) (view words self.old) core.number word.number stored).memory }
+        ensures answer { result ≡ (rule (five_of self.old) (view P.words self.old) core.number word.number stored).answer }
+        ensures after { view P.words self.new ≡ (rule (five_of self.old) (view P.words self.old) core.number word.number stored).memory }
     {
         let (state, _) = self.found(core.number(), word.number());
         match state {
@@ -102,7 +102,7 @@ impl<P: PageStore> Memory<P> {
     fn clear(&mut self, core: u8, slot: u8)
         requires { (core < 8) × (slot < 64) }
         ensures figures { self.new.figures ≡ self.old.figures }
-        ensures after { view words self.new ≡ with_copy (write_back (view words self.old) core slot) core slot invalid }
+        ensures after { view P.words self.new ≡ with_copy (write_back (view P.words self.old) core slot) core slot invalid }
     {
         let at = core as usize * 64 + slot as usize;
         let _ = self.turn_at(at, Event::Evict);
@@ -112,8 +112,8 @@ impl<P: PageStore> Memory<P> {
     /// page. A slot that holds another word stays as it is.
     pub fn evict(&mut self, core: Core, word: Place) -> u8
         ensures figures { self.new.figures ≡ self.old.figures }
-        ensures answer { result ≡ (evicted (five_of self.old) (view words self.old) core.number word.number).answer }
-        ensures after { view words self.new ≡ (evicted (five_of self.old) (view words self.old) core.number word.number).memory }
+        ensures answer { result ≡ (evicted (five_of self.old) (view P.words self.old) core.number word.number).answer }
+        ensures after { view P.words self.new ≡ (evicted (five_of self.old) (view P.words self.old) core.number word.number).memory }
     {
         let (state, _) = self.found(core.number(), word.number());
         let slot = self.slot(word.number());

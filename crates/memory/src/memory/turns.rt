@@ -30,7 +30,7 @@ fn turn_all<P: PageStore>(
 ) -> Done
     requires { (at < length entries.old) × ((get_or entries.old at empty).place < length owners.old) }
     ensures entries { entries.new ≡ slice_set entries.old at (turned (slice_index_or entries.old at empty) event) }
-    ensures page { words page.new ≡ page_after (done_by (get_or entries.old at empty).state event) (slice_index_or entries.old at empty) (words page.old) }
+    ensures page { P.words page.new ≡ page_after (done_by (get_or entries.old at empty).state event) (slice_index_or entries.old at empty) (P.words page.old) }
     ensures owners { owners.new ≡ owners_after (done_by (get_or entries.old at empty).state event) (slice_index_or entries.old at empty) owners.old }
     ensures answer { result ≡ done_by (get_or entries.old at empty).state event }
 {
@@ -56,7 +56,7 @@ impl<P: PageStore> Memory<P> {
         requires { at < 512 }
         ensures figures { self.new.figures ≡ self.old.figures }
         ensures entries { self.new.entries ≡ slice_set self.old.entries at (turned (slice_index_or self.old.entries at empty) event) }
-        ensures page { words self.new.page ≡ page_after (done_by (get_or self.old.entries at empty).state event) (slice_index_or self.old.entries at empty) (words self.old.page) }
+        ensures page { P.words self.new.page ≡ page_after (done_by (get_or self.old.entries at empty).state event) (slice_index_or self.old.entries at empty) (P.words self.old.page) }
         ensures owners { self.new.owners ≡ owners_after (done_by (get_or self.old.entries at empty).state event) (slice_index_or self.old.entries at empty) self.old.owners }
         ensures answer { result ≡ done_by (get_or self.old.entries at empty).state event }
     {
@@ -75,7 +75,7 @@ impl<P: PageStore> Memory<P> {
         requires { (core < 8) × (slot < 64) }
         ensures figures { self.new.figures ≡ self.old.figures }
         ensures entries { self.new.entries ≡ slice_set self.old.entries (seat core slot) (turned (slice_index_or self.old.entries (seat core slot) empty) Settle) }
-        ensures after { view words self.new ≡ write_back (view words self.old) core slot }
+        ensures after { view P.words self.new ≡ write_back (view P.words self.old) core slot }
         ensures answer { result ≡ is_registered (get_or self.old.entries (seat core slot) empty).state }
     {
         let at = core as usize * 64 + slot as usize;

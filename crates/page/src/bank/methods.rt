@@ -18,7 +18,7 @@ impl<P: PageStore> Bank<P> {
     pub fn new(below: P) -> Bank<P>
         ensures slots { result.slots ≡ replicate 128 None }
         ensures below { result.below ≡ below }
-        ensures same { laid result.slots (words result.below) ≡ words below }
+        ensures same { laid result.slots (P.words result.below) ≡ P.words below }
     {
         Bank {
             slots: empty_slots(),
@@ -37,8 +37,8 @@ impl<P: PageStore> Bank<P> {
     /// below. A bank below keeps its own slots.
     pub fn drain(&mut self)
         ensures slots { self.new.slots ≡ replicate 128 None }
-        ensures below { words self.new.below ≡ laid self.old.slots (words self.old.below) }
-        ensures same { laid self.new.slots (words self.new.below) ≡ laid self.old.slots (words self.old.below) }
+        ensures below { P.words self.new.below ≡ laid self.old.slots (P.words self.old.below) }
+        ensures same { laid self.new.slots (P.words self.new.below) ≡ laid self.old.slots (P.words self.old.below) }
     {
         for slot in 0..128 {
             self.flush(slot);
@@ -47,7 +47,7 @@ impl<P: PageStore> Bank<P> {
 
     /// Drains the bank and gives the store below back: it means what the bank meant.
     pub fn into_below(mut self) -> P
-        ensures { words result ≡ laid self.slots (words self.below) }
+        ensures { P.words result ≡ laid self.slots (P.words self.below) }
     {
         self.drain();
         let Bank { slots: _, below } = self;
@@ -58,7 +58,7 @@ impl<P: PageStore> Bank<P> {
     fn flush(&mut self, slot: usize)
         requires { slot < 128 }
         ensures slots { self.new.slots ≡ slice_set self.old.slots slot None }
-        ensures below { words self.new.below ≡ flushed (slice_index_or self.old.slots slot None) (words self.old.below) }
+        ensures below { P.words self.new.below ≡ flushed (slice_index_or self.old.slots slot None) (P.words self.old.below) }
     {
         let held = self.slots[slot];
         self.slots[slot] = None;

@@ -52,16 +52,16 @@ impl<P: PageStore> PageStore for Bank<P> {
 impl<P: PageStore> Bank<P> {
     // The number of words below, which is the bank's too.
     fn size_below(&self) -> u16
-        ensures { result ≡ length (words self.now.below) }
+        ensures { result ≡ length (P.words self.now.below) }
     {
         self.below.size()
     }
 
     // Reads below, and fills nothing.
     fn read_below(&mut self, place: u16) -> Result<Word, Outside>
-        ensures answer { result ≡ read_answer (words self.old.below) place }
+        ensures answer { result ≡ read_answer (P.words self.old.below) place }
         ensures slots { self.new.slots ≡ self.old.slots }
-        ensures below { words self.new.below ≡ words self.old.below }
+        ensures below { P.words self.new.below ≡ P.words self.old.below }
     {
         self.below.read(place)
     }
@@ -87,7 +87,7 @@ impl<P: PageStore> Bank<P> {
     // size below never changes, so that write is never outside.
     fn make_way(&mut self, place: u16)
         ensures slots { self.new.slots ≡ self.old.slots }
-        ensures below { words self.new.below ≡ made_way (slot_for self.old.slots place) place (words self.old.below) }
+        ensures below { P.words self.new.below ≡ made_way (slot_for self.old.slots place) place (P.words self.old.below) }
     {
         if let Some(change) = self.held(place) {
             if change.place != place {

@@ -1,9 +1,9 @@
 //! How the Bloom signature is made, and what it does.
 ghost use Rattle.std.specs.Prelude.{◌≡◌, ℕ, ◌+◌, ◌/◌, ◌<◌, ◌≤◌, false, length, replicate, slice_index};
-ghost use Rattle.sets.specs.Fills.{bits_from, set_count, word_fill, fill as fill-of};
-ghost use Rattle.sets.specs.Rows.{added, joined as joined-rows, emptied as emptied-rows, bits_put, rows_taken_in, rows_cleared, first_bit, second_bit};
+ghost use Rattle.sets.specs.Fills.{bits_from, set_count, word_fill, fill as fill_of};
+ghost use Rattle.sets.specs.Rows.{added, joined as joined_rows, emptied as emptied_rows, bits_put, rows_taken_in, rows_cleared, first_bit, second_bit};
 ghost use Rattle.sets.specs.Tables.{rows_of, with_bit};
-ghost use Rattle.signature.specs.Blooms.{fresh, bits, held, with_word, joined, emptied, put as put-bloom, taken_in, cleared, bounded as is-bounded, puts as put-sentence, takes, clears_it};
+ghost use Rattle.signature.specs.Blooms.{fresh, bits, held, with_word, joined, emptied, put as put_bloom, taken_in, cleared, bounded as is_bounded, puts as put_sentence, takes, clears_it};
 
 use super::Bloom;
 use crate::interface::Signature;
@@ -68,7 +68,7 @@ impl Bloom {
 
     /// How many of a core's 256 bits are set; 0 of a core above 7.
     pub fn fill(&self, core: u8) -> u16
-        ensures { result ≡ fill-of (bits self.now) core }
+        ensures { result ≡ fill_of (bits self.now) core }
     {
         if core >= 8 {
             return 0;
@@ -98,7 +98,7 @@ impl Bloom {
     fn join(&mut self, core: u8, other: u8)
         requires { (core < 8) × (other < 8) }
         ensures after { self.new ≡ joined self.old core other }
-        ensures exactly { (d x : ℕ) → bits self.new d x ≡ joined-rows (bits self.old) core other d x }
+        ensures exactly { (d x : ℕ) → bits self.new d x ≡ joined_rows (bits self.old) core other d x }
     {
         let from = other as usize * 4;
         join_words(&mut self.words, core as usize * 4, from, 4);
@@ -108,7 +108,7 @@ impl Bloom {
     fn empty(&mut self, core: u8)
         requires { core < 8 }
         ensures after { self.new ≡ emptied self.old core }
-        ensures exactly { (d x : ℕ) → bits self.new d x ≡ emptied-rows (bits self.old) core d x }
+        ensures exactly { (d x : ℕ) → bits self.new d x ≡ emptied_rows (bits self.old) core d x }
     {
         empty_words(&mut self.words, core as usize * 4, 4);
     }
@@ -117,15 +117,15 @@ impl Bloom {
 impl Signature for Bloom {
     ghost holds = { held };
 
-    ghost put_of = { put-bloom };
+    ghost put_of = { put_bloom };
 
     ghost take_in_of = { taken_in };
 
     ghost clear_of = { cleared };
 
-    ghost bounded = { is-bounded };
+    ghost bounded = { is_bounded };
 
-    ghost puts = { put-sentence };
+    ghost puts = { put_sentence };
 
     ghost takes_in = { takes };
 
@@ -141,7 +141,7 @@ impl Signature for Bloom {
 
     /// The word's two bits are set in the core's row, and no other bit is altered.
     fn put(&mut self, core: u8, word: u16)
-        ensures after { self.new ≡ put-bloom self.old core word }
+        ensures after { self.new ≡ put_bloom self.old core word }
         ensures exactly { (d x : ℕ) → bits self.new d x ≡ bits_put (bits self.old) core word d x }
     {
         if core < 8 && word < 4096 {

@@ -1,7 +1,7 @@
 //! How the exact signature is made, and what it does.
 ghost use Rattle.std.specs.Prelude.{◌≡◌, ℕ, ◌<◌, false, replicate};
-ghost use Rattle.sets.specs.Rows.{added, joined as joined-rows, emptied as emptied-rows, words_put, rows_taken_in, rows_cleared};
-ghost use Rattle.signature.specs.Exacts.{fresh, held, with_word, joined, emptied, put as put-exact, taken_in, cleared, bounded as is-bounded, puts as put-sentence, takes, clears_it};
+ghost use Rattle.sets.specs.Rows.{added, joined as joined_rows, emptied as emptied_rows, words_put, rows_taken_in, rows_cleared};
+ghost use Rattle.signature.specs.Exacts.{fresh, held, with_word, joined, emptied, put as put_exact, taken_in, cleared, bounded as is_bounded, puts as put_sentence, takes, clears_it};
 
 use super::Exact;
 use crate::interface::Signature;
@@ -38,7 +38,7 @@ impl Exact {
     fn join(&mut self, core: u8, other: u8)
         requires { (core < 8) × (other < 8) }
         ensures after { self.new ≡ joined self.old core other }
-        ensures exactly { (d v : ℕ) → held self.new d v ≡ joined-rows (held self.old) core other d v }
+        ensures exactly { (d v : ℕ) → held self.new d v ≡ joined_rows (held self.old) core other d v }
     {
         let from = other as usize * 64;
         join_words(&mut self.words, core as usize * 64, from, 64);
@@ -48,7 +48,7 @@ impl Exact {
     fn empty(&mut self, core: u8)
         requires { core < 8 }
         ensures after { self.new ≡ emptied self.old core }
-        ensures exactly { (d v : ℕ) → held self.new d v ≡ emptied-rows (held self.old) core d v }
+        ensures exactly { (d v : ℕ) → held self.new d v ≡ emptied_rows (held self.old) core d v }
     {
         empty_words(&mut self.words, core as usize * 64, 64);
     }
@@ -57,15 +57,15 @@ impl Exact {
 impl Signature for Exact {
     ghost holds = { held };
 
-    ghost put_of = { put-exact };
+    ghost put_of = { put_exact };
 
     ghost take_in_of = { taken_in };
 
     ghost clear_of = { cleared };
 
-    ghost bounded = { is-bounded };
+    ghost bounded = { is_bounded };
 
-    ghost puts = { put-sentence };
+    ghost puts = { put_sentence };
 
     ghost takes_in = { takes };
 
@@ -77,7 +77,7 @@ impl Signature for Exact {
 
     /// The core's set gains the word alone.
     fn put(&mut self, core: u8, word: u16)
-        ensures after { self.new ≡ put-exact self.old core word }
+        ensures after { self.new ≡ put_exact self.old core word }
         ensures exactly { (d v : ℕ) → held self.new d v ≡ words_put (held self.old) core word d v }
     {
         if core < 8 && word < 4096 {

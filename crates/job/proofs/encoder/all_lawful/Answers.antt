@@ -7,17 +7,17 @@ use Rattle.job.specs.Encoding.{all_lawful, LawfulCall}
 use Rattle.job.proofs.Writing.{lawful_step}
 use Rattle.job.proofs.encoder.all_lawful.Goals as goal
 
-pub returns-then-not-by-lawful-core : goal.returns-then-not-by-lawful-core
-returns-then-not-by-lawful-core c =
+pub returns-then-not-by_lawful_core : goal.returns-then-not-by_lawful_core
+returns-then-not-by_lawful_core c =
     record {
-      value = sym (lawful_step c.args.calls.now c.loop-call.call-index _ false c.loop-call-test.true c.if-not-by-lawful-core.ensures.value) ∙ c.loop-call.invariant.0;
+      value = sym (lawful_step c.args.calls.now c.loop-call.call-index _ false c.loop-call-test.true c.if-not-by_lawful_core.ensures.value) ∙ c.loop-call.invariant.0;
       lawful = λ no_way. absurd (both_ways false refl no_way);
     }
 
 pub loop-call-preserved : goal.loop-call-preserved
 loop-call-preserved c = (
-  sym (lawful_step c.args.calls.now c.loop-call.call-index _ true c.loop-call-test.true c.if-not-by-lawful-core.ensures.value) ∙ c.loop-call.invariant.0,
-  All-more LawfulCall c.args.calls.now c.loop-call.call-index _ c.loop-call-test.true c.loop-call.invariant.1 (c.if-not-by-lawful-core.ensures.lawful refl),
+  sym (lawful_step c.args.calls.now c.loop-call.call-index _ true c.loop-call-test.true c.if-not-by_lawful_core.ensures.value) ∙ c.loop-call.invariant.0,
+  All-more LawfulCall c.args.calls.now c.loop-call.call-index _ c.loop-call-test.true c.loop-call.invariant.1 (c.if-not-by_lawful_core.ensures.lawful refl),
 )
 
 pub returns : goal.returns

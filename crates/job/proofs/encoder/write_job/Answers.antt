@@ -10,6 +10,6 @@ returns c =
     let cs = c.args.calls.now in
     let f = c.args.figures.now in
     record {
-      after = headed (figures f) cs c.args.out.now c.write-records.new.out c.copy-from-slice.new.self (omega arith) c.write-records.ensures (c.copy-from-slice.ensures.after ∙ c.contents-of.ensures);
+      after = headed (figures f) cs c.args.out.now c.write_records.new.out c.copy_from_slice.new.self (omega arith) c.write_records.ensures (c.copy_from_slice.ensures.after ∙ c.contents_of.ensures);
       reads = λ lawful. reads_back (figures f) cs (figures_checked f) lawful (omega arith);
     }

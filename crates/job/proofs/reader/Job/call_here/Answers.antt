@@ -16,5 +16,5 @@ pub returns : goal.returns
 returns c =
     let job = c.args.self.now in
     let left : job.next < job.records = omega arith in
-    let found = calls_next job.bytes.now job.records job.next _ left job.lawful c.spelled-call.ensures in
+    let found = calls_next job.bytes.now job.records job.next _ left job.lawful c.spelled_call.ensures in
     record { value = found.0; past = found.1; end = λ h. let no_way : ⊥ = omega arith in absurd no_way }

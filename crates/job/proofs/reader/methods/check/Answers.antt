@@ -6,11 +6,11 @@ use Rattle.job.proofs.reader.methods.check.Goals as goal
 pub returns : goal.returns
 returns c =
     let bytes = c.args.bytes.now in
-    let said = c.first-fault.ensures in
-    let under = All-from_get_or (λ b. b < 256) bytes 0 (λ i h. (c.type-inv.bytes i).fits) in
+    let said = c.first_fault.ensures in
+    let under = All-from_get_or (λ b. b < 256) bytes 0 (λ i h. (c.type_inv.bytes i).fits) in
     record {
       value = said.value;
       len = said.len;
-      encoded = encoded_found bytes c.first-fault.result under said.value;
+      encoded = encoded_found bytes c.first_fault.result under said.value;
       law = (reads_back, encodes_again);
     }

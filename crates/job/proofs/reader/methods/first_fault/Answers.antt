@@ -5,8 +5,8 @@ use Rattle.job.proofs.reader.methods.first_fault.Goals as goal
 
 pub returns : goal.returns
 returns c =
-    let n = c.in-ok-records.records in
+    let n = c.in_ok-records.records in
     record {
       value = search rules;
-      len = length_calls n 16 (drop 16 c.args.bytes.now) (ap none c.in-ok-check-records.ensures);
+      len = length_calls n 16 (drop 16 c.args.bytes.now) (ap none c.in_ok-check_records.ensures);
     }

@@ -1,5 +1,5 @@
 use Rattle.std.proofs.Common.{◌≡◌, ℕ, is_some, Option, sym, ap, ◌∙◌, arith, below_more}
-use Rattle.rules.proofs.Members.{in-below}
+use Rattle.rules.proofs.Members.{in_below}
 use Rattle.rules.specs.Tables.{below}
 use Rattle.locks.proofs.Questions.{one_of}
 use Rattle.locks.proofs.Tables.{kept, holder_row}
@@ -8,7 +8,7 @@ use Rattle.locks.proofs.row.several.any_held.Goals as goal
 pub returns-then-is-some : goal.returns-then-is-some
 returns-then-is-some c =
     let here = holder_row c.args.rows.now c.loop-row.row-index c.row-item.result c.holder.result c.loop-row-test.true c.row-item.is c.holder.ensures in
-    sym (one_of (λ lock. is_some (kept c.args.rows.now lock).holder) (below 8) c.loop-row.row-index (in-below c.loop-row.row-index 8 (omega arith))
+    sym (one_of (λ lock. is_some (kept c.args.rows.now lock).holder) (below 8) c.loop-row.row-index (in_below c.loop-row.row-index 8 (omega arith))
     (sym (ap (λ (o : Option ℕ). is_some o) here) ∙ sym c.is-some.ensures ∙ c.if-is-some.true))
 
 pub loop-row-preserved : goal.loop-row-preserved

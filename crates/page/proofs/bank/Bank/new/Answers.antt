@@ -2,16 +2,16 @@ use Rattle.std.proofs.Common.{length, get_or, None, refl, ap, ◌∙◌}
 use Rattle.page.proofs.Slots.{empty_full, empty_lies, laid_empty}
 use Rattle.page.proofs.bank.Bank.new.Goals as goal
 
-pub invariant-of-result : goal.invariant-of-result
-invariant-of-result g c =
-    let empty = c.empty-slots.ensures in
-    (empty_full c.empty-slots.result empty, (empty_lies c.empty-slots.result empty, tt))
+pub invariant_of-result : goal.invariant_of-result
+invariant_of-result g c =
+    let empty = c.empty_slots.ensures in
+    (empty_full c.empty_slots.result empty, (empty_lies c.empty_slots.result empty, tt))
 
 pub returns : goal.returns
 returns g c =
-    let empty = c.empty-slots.ensures in
+    let empty = c.empty_slots.ensures in
     record {
       slots = empty;
       below = refl {a = c.args.below};
-      same = laid_empty c.empty-slots.result (g.P.PageStore.words c.args.below) empty;
+      same = laid_empty c.empty_slots.result (g.P.PageStore.words c.args.below) empty;
     }

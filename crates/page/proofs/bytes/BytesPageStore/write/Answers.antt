@@ -14,18 +14,18 @@ returns-then-place-size c =
       lent = search rules;
     }
 
-pub slice-bounds-copy-from-slice-end : goal.slice-bounds-copy-from-slice-end
-slice-bounds-copy-from-slice-end c = omega (arith, length_words c.args.self.now.bytes.now)
+pub slice_bounds-copy_from_slice-end : goal.slice_bounds-copy_from_slice-end
+slice_bounds-copy_from_slice-end c = omega (arith, length_words c.args.self.now.bytes.now)
 
 pub returns : goal.returns
 returns c =
     let bytes = c.args.self.now.bytes.now in
-    let at = c.start-of-at.result in
-    let written = bytes_inside bytes c.args.place at (at + 8 - at) c.args.word c.copy-from-slice.new.self
+    let at = c.start_of-at.result in
+    let written = bytes_inside bytes c.args.place at (at + 8 - at) c.args.word c.copy_from_slice.new.self
     (omega arith)
-    c.start-of-at.ensures
+    c.start_of-at.ensures
     (omega arith)
-    (c.copy-from-slice.ensures.after ∙ c.bytes-of-group.ensures.value) in
+    (c.copy_from_slice.ensures.after ∙ c.bytes_of-group.ensures.value) in
     record {
       answer = search rules;
       after = ap byte_words written ∙ words_after bytes c.args.place c.args.word (search rules);

@@ -5,5 +5,5 @@ use Rattle.page.proofs.table.Table.new.Goals as goal
 
 pub returns : goal.returns
 returns c =
-    let blank = c.blank-word-blank in
+    let blank = c.blank_word-blank in
     ap (λ (x : Word). replicate 4096 x) (blank_from_zero blank.result blank.ensures.value blank.ensures.mark)

@@ -6,9 +6,9 @@ use Rattle.signature.proofs.change.apply.apply_to_both.Goals as goal
 pub loop-change-preserved : goal.loop-change-preserved
 loop-change-preserved g c = (
   applied_more put taken_in cleared _ _ c.args.changes.now c.loop-change.change-index _ c.loop-change-test.true
-      c.make-both.ensures.exactly ∙ c.loop-change.invariant.0,
+      c.make_both.ensures.exactly ∙ c.loop-change.invariant.0,
   applied_more g.S.Signature.put_of g.S.Signature.take_in_of g.S.Signature.clear_of _ _ c.args.changes.now
-      c.loop-change.change-index _ c.loop-change-test.true c.make-both.ensures.after ∙ c.loop-change.invariant.1,
+      c.loop-change.change-index _ c.loop-change-test.true c.make_both.ensures.after ∙ c.loop-change.invariant.1,
 )
 
 pub returns : goal.returns

@@ -2,8 +2,8 @@ use Rattle.std.proofs.Common.{refl, ap, ◌∙◌, arith}
 use Rattle.page.proofs.BankCalls.{write_inside, write_outside, laid_inside, laid_outside, slots_inside, slots_outside, below_inside, below_outside}
 use Rattle.page.proofs.bank.store.BankPageStore.write.Goals as goal
 
-pub returns-then-place-size-below : goal.returns-then-place-size-below
-returns-then-place-size-below g c =
+pub returns-then-place-size_below : goal.returns-then-place-size_below
+returns-then-place-size_below g c =
     let slots = c.args.self.now.slots in
     let below = g.P.PageStore.words c.args.self.now.below in
     record {
@@ -17,7 +17,7 @@ pub returns : goal.returns
 returns g c =
     let slots = c.args.self.now.slots in
     let below = g.P.PageStore.words c.args.self.now.below in
-    let way = c.make-way.new.self in
+    let way = c.make_way.new.self in
     record {
       answer = write_inside slots below c.args.place (omega arith);
       after =
@@ -25,8 +25,8 @@ returns g c =
           c.args.self.now.full
           c.args.self.now.lies
           (omega arith)
-          c.make-way.ensures.slots
-          c.make-way.ensures.below;
-      slots = slots_inside slots below c.args.place c.args.word way.slots (omega arith) c.make-way.ensures.slots;
-      below = below_inside slots below c.args.place (g.P.PageStore.words way.below) (omega arith) c.make-way.ensures.below;
+          c.make_way.ensures.slots
+          c.make_way.ensures.below;
+      slots = slots_inside slots below c.args.place c.args.word way.slots (omega arith) c.make_way.ensures.slots;
+      below = below_inside slots below c.args.place (g.P.PageStore.words way.below) (omega arith) c.make_way.ensures.below;
     }
