@@ -2,7 +2,7 @@
 -- slot; what lies past a row's slots or past the last core is skipped. Assumes nothing.
 use Rattle.std.proofs.Common.{◌≡◌, ℕ, zero, suc, ◌+◌, ◌-◌, ◌*◌, ◌/◌, ◌%◌, ◌<◌, ◌≤◌, Bool, true, false, cond, ◌&&◌, ltb, List, [], ◌∷◌, ◌++◌, map, fold, sym, refl, ap, ◌∙◌, ⊎_elim, add-zero, add-suc, arith}
 use Rattle.std.proofs.lemmas.Nat.{div-mul-add, mod-mul-add, le-div}
-use Rattle.std.proofs.lemmas.List.{append-nil, append_assoc, map_append, flat_map_more}
+use Rattle.std.proofs.lemmas.List.{append-nil, append_assoc, map-append, flat_map_more}
 use Rattle.std.proofs.lemmas.List.Sums.{fold_push}
 use Rattle.std.proofs.lemmas.Bool.{lt-ltb, le-ltb, and_from, and_left, and_right, cases_eq, cond-false, cond-true}
 use Rattle.std.specs.List.{flat_map}
@@ -51,7 +51,7 @@ row f c (suc s) l a h =
     ∙ (ap (λ (p : Place). walked f (seat c s) ++ (p ∷ [])) (placed c s s64)
     ∙ (ap (λ (ps : List Place). ps ++ (row_of c s ∷ [])) (row f c s l a (omega arith))
     ∙ (append_assoc (walked f (c * 64)) (map (row_of c) (below s)) (row_of c s ∷ [])
-    ∙ ap (λ (ps : List Place). walked f (c * 64) ++ ps) (sym (map_append (row_of c) (below s) (s ∷ [])))))))
+    ∙ ap (λ (ps : List Place). walked f (c * 64) ++ ps) (sym (map-append (row_of c) (below s) (s ∷ [])))))))
 
 past_slots : (f : Five) (c k : ℕ) → seat c f.slots ≤ k → k < seat c 64 → within f k ≡ false
 past_slots f c k a b =

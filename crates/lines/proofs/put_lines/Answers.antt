@@ -14,14 +14,14 @@ pub loop-answered-preserved : goal.loop-answered-preserved
 loop-answered-preserved c =
     let records = c.args.records.now in
     let i = c.loop-answered.answered-index in
-    let one = c.put-record-end.ensures.wrote in
+    let one = c.put_record-end.ensures.wrote in
     let both = and_then (omega arith) c.loop-answered.invariant.0 one in
-    let most = c.put-record-end.ensures.most in
+    let most = c.put_record-end.ensures.most in
     let past = one.past in
     let within = c.loop-answered.invariant.1 in (
-      subst (λ (text : List ℕ). Wrote c.args.out.now 0 text c.put-record-end.new.out c.put-record-end.result) (lines_more records i c.answered-item.result c.loop-answered-test.true c.answered-item.is) both,
+      subst (λ (text : List ℕ). Wrote c.args.out.now 0 text c.put_record-end.new.out c.put_record-end.result) (lines_more records i c.answered-item.result c.loop-answered-test.true c.answered-item.is) both,
       omega arith,
-      omega (arith, c.put-record-end.auto.out, c.loop-answered.invariant.2),
+      omega (arith, c.put_record-end.auto.out, c.loop-answered.invariant.2),
     )
 
 pub returns : goal.returns

@@ -6,6 +6,6 @@ use Rattle.lines.proofs.write_lines.Goals as goal
 
 pub returns : goal.returns
 returns c =
-    let wrote = from_first c.put-lines.ensures in
+    let wrote = from_first c.put_lines.ensures in
     let room : has_room (length c.args.out.now) (length c.args.records.now) ≡ true = le-leb _ _ (omega arith) in
     rw room (record { value = ap Some wrote.0; after = wrote.1 })

@@ -2,8 +2,8 @@ use Rattle.std.proofs.Common.{arith}
 use Rattle.lines.proofs.Digits.{one_digit, digit_more, ten_digits}
 use Rattle.lines.proofs.number.digits_of.Goals as goal
 
-pub overflow-add-count : goal.overflow-add-count
-overflow-add-count c =
+pub overflow_add-count : goal.overflow_add-count
+overflow_add-count c =
     let few = ten_digits c.args.n (omega arith) in
     record { fits = omega arith }
 

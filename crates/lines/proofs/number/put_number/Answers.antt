@@ -2,11 +2,11 @@ use Rattle.std.proofs.Common.{◌∙◌, arith}
 use Rattle.lines.proofs.Digits.{digit_more, ten_digits, last_digit, first_digit}
 use Rattle.lines.proofs.number.put_number.Goals as goal
 
-pub overflow-add-end : goal.overflow-add-end
-overflow-add-end c = let few = ten_digits c.args.n (omega arith) in record { fits = omega arith }
+pub overflow_add-end : goal.overflow_add-end
+overflow_add-end c = let few = ten_digits c.args.n (omega arith) in record { fits = omega arith }
 
-pub overflow-sub-i : goal.overflow-sub-i
-overflow-sub-i c =
+pub overflow_sub-i : goal.overflow_sub-i
+overflow_sub-i c =
     let more = digit_more c.loop-rest.rest c.loop-rest-test.true (omega arith) in omega arith
 
 pub bounds-out-i : goal.bounds-out-i

@@ -5,13 +5,13 @@ use Rattle.locks.proofs.Questions.{one_of}
 use Rattle.locks.proofs.Tables.{kept, holder_row}
 use Rattle.locks.proofs.row.several.any_held.Goals as goal
 
-pub returns-then-is-some : goal.returns-then-is-some
-returns-then-is-some c =
+pub returns-then-is_some : goal.returns-then-is_some
+returns-then-is_some c =
     let here = holder_row c.args.rows.now c.loop-row.row-index c.row-item.result c.holder.result c.loop-row-test.true c.row-item.is c.holder.ensures in
     sym (one_of (λ lock. is_some (kept c.args.rows.now lock).holder) (below 8) c.loop-row.row-index (in_below c.loop-row.row-index 8 (omega arith))
-    (sym (ap (λ (o : Option ℕ). is_some o) here) ∙ sym c.is-some.ensures ∙ c.if-is-some.true))
+    (sym (ap (λ (o : Option ℕ). is_some o) here) ∙ sym c.is_some.ensures ∙ c.if-is_some.true))
 
 pub loop-row-preserved : goal.loop-row-preserved
 loop-row-preserved c =
     let here = holder_row c.args.rows.now c.loop-row.row-index c.row-item.result c.holder.result c.loop-row-test.true c.row-item.is c.holder.ensures in
-    below_more _ _ c.loop-row.invariant (sym (ap (λ (o : Option ℕ). is_some o) here) ∙ sym c.is-some.ensures ∙ c.if-is-some.false)
+    below_more _ _ c.loop-row.invariant (sym (ap (λ (o : Option ℕ). is_some o) here) ∙ sym c.is_some.ensures ∙ c.if-is_some.false)

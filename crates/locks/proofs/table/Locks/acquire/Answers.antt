@@ -4,4 +4,4 @@ use Rattle.locks.proofs.table.Locks.acquire.Goals as goal
 
 pub enter-requires : goal.enter-requires
 enter-requires c =
-    (c.if-core-ge8.false, (c.if-lock-ge8.false, neither c.args.self.now c.args.core (sym c.waits.ensures ∙ c.if-waits.false) (sym c.holds-some.ensures ∙ c.if-holds-some.false)))
+    (c.if-core-ge8.false, (c.if-lock-ge8.false, neither c.args.self.now c.args.core (sym c.waits.ensures ∙ c.if-waits.false) (sym c.holds_some.ensures ∙ c.if-holds_some.false)))

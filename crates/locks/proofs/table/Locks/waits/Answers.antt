@@ -4,4 +4,4 @@ use Rattle.locks.proofs.Kept.{waits_of}
 use Rattle.locks.proofs.table.Locks.waits.Goals as goal
 
 pub returns : goal.returns
-returns c = c.is-waiting.ensures ∙ ap waiting c.does.ensures ∙ sym (waits_of c.args.self.now c.args.core)
+returns c = c.is_waiting.ensures ∙ ap waiting c.does.ensures ∙ sym (waits_of c.args.self.now c.args.core)

@@ -5,7 +5,7 @@ use Rattle.memory.proofs.memory.Memory.clear.Goals as goal
 pub returns : goal.returns
 returns g c =
     let m = c.args.self.now in
-    let t = c.turn-at.ensures in
+    let t = c.turn_at.ensures in
     record {
       figures = t.figures;
       after =

@@ -7,11 +7,11 @@ use Rattle.memory.proofs.Views.{slots_most, cores_most}
 use Rattle.memory.proofs.Walks.{walked_all}
 use Rattle.memory.proofs.memory.Memory.fade.Goals as goal
 
-pub invariant-of-self : goal.invariant-of-self
-invariant-of-self g c =
+pub invariant_of-self : goal.invariant_of-self
+invariant_of-self g c =
     let m = c.args.self.now in
-    let s = faded_sound (figures m.figures) c.args.plan m.entries _ m.owners c.fade-all.ensures.after (record { caches = m.caches; words = m.words; placed = m.placed; owned = m.owned }) in
-    (s.caches, (s.words, (s.placed, (s.owned, tt))))
+    let s = faded_sound (figures m.figures) c.args.plan m.entries _ m.owners c.fade_all.ensures.after (record { caches = m.caches; words = m.words; placed = m.placed; owned = m.owned }) in
+    record { caches = s.caches; words = s.words; placed = s.placed; owned = s.owned }
 
 pub returns : goal.returns
 returns g c =
@@ -19,7 +19,7 @@ returns g c =
     record {
       figures = refl {a = m.figures};
       answer =
-          c.fade-all.ensures.answer
+          c.fade_all.ensures.answer
           ∙ ap (tally (λ p. dropped (figures m.figures) c.args.plan (copies_of m.entries p.core p.slot))) (walked_all (figures m.figures) (slots_most m.figures) (cores_most m.figures));
-      after = faded_memory (figures m.figures) c.args.plan (g.P.PageStore.words m.page) m.entries _ m.owners c.fade-all.ensures.after;
+      after = faded_memory (figures m.figures) c.args.plan (g.P.PageStore.words m.page) m.entries _ m.owners c.fade_all.ensures.after;
     }

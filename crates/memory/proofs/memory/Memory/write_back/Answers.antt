@@ -7,7 +7,7 @@ use Rattle.memory.proofs.memory.Memory.write_back.Goals as goal
 pub returns : goal.returns
 returns g c =
     let m = c.args.self.now in
-    let t = c.turn-at.ensures in
+    let t = c.turn_at.ensures in
     record {
       figures = t.figures;
       entries = t.entries;
@@ -18,5 +18,5 @@ returns g c =
           t.page
           t.entries
           t.owners;
-      answer = c.is-written.ensures ∙ (ap is_written t.answer ∙ settle_writes _);
+      answer = c.is_written.ensures ∙ (ap is_written t.answer ∙ settle_writes _);
     }

@@ -6,16 +6,16 @@ use Rattle.memory.proofs.memory.fades.fade_all.Goals as goal
 pub loop-at-init : goal.loop-at-init
 loop-at-init c = fading_none (figures c.args.figures.now) c.args.plan c.args.entries.now
 
-pub overflow-add-dropped : goal.overflow-add-dropped
-overflow-add-dropped c = omega (arith, c.loop-at.invariant.small, c.fade-at-dropped.ensures.small, c.requires)
+pub overflow_add-dropped : goal.overflow_add-dropped
+overflow_add-dropped c = omega (arith, c.loop-at.invariant.small, c.fade_at-dropped.ensures.small, c.requires)
 
 pub loop-at-preserved : goal.loop-at-preserved
 loop-at-preserved c =
-    fading_more (figures c.args.figures.now) c.args.plan c.args.entries.now c.loop-at.entries c.loop-at.at c.loop-at.dropped c.fade-at-dropped.result c.fade-at-dropped.new.held c.index-entries-at.result
+    fading_more (figures c.args.figures.now) c.args.plan c.args.entries.now c.loop-at.entries c.loop-at.at c.loop-at.dropped c.fade_at-dropped.result c.fade_at-dropped.new.held c.index-entries-at.result
     c.loop-at-test.true
-    c.fade-at-dropped.ensures.after
-    c.fade-at-dropped.ensures.answer
-    c.fade-at-dropped.ensures.small
+    c.fade_at-dropped.ensures.after
+    c.fade_at-dropped.ensures.answer
+    c.fade_at-dropped.ensures.small
     c.loop-at.invariant
 
 pub returns : goal.returns

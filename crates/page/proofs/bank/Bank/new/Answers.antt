@@ -5,7 +5,7 @@ use Rattle.page.proofs.bank.Bank.new.Goals as goal
 pub invariant_of-result : goal.invariant_of-result
 invariant_of-result g c =
     let empty = c.empty_slots.ensures in
-    (empty_full c.empty_slots.result empty, (empty_lies c.empty_slots.result empty, tt))
+    record { full = empty_full c.empty_slots.result empty; lies = empty_lies c.empty_slots.result empty }
 
 pub returns : goal.returns
 returns g c =

@@ -5,15 +5,14 @@ use Rattle.races.specs.declared.seen.Seen.{Seen}
 use Rattle.races.proofs.Empty.{unseen_at, blank_up_to, forgotten}
 use Rattle.races.proofs.races.Races.new.Goals as goal
 
-pub invariant-of-result : goal.invariant-of-result
-invariant-of-result c = (
-  search rules,
-  (
-    omega arith,
-    ((λ word. subst (λ (t : List Seen). up_to t 1 word ≡ true) (sym c.blank-table.ensures) (blank_up_to 4096 1 word)), tt),
-  ),
-)
+pub invariant_of-result : goal.invariant_of-result
+invariant_of-result c =
+    record {
+      full = search rules;
+      begun = omega arith;
+      older = λ word. subst (λ (t : List Seen). up_to t 1 word ≡ true) (sym c.blank_table.ensures) (blank_up_to 4096 1 word);
+    }
 
 pub returns : goal.returns
 returns c =
-    forgotten c.blank-table.result 1 (λ w. subst (λ (t : List Seen). (seen_at t w).stamp < 1) (sym c.blank-table.ensures) (subst (λ (s : Seen). s.stamp < 1) (sym (unseen_at 4096 w)) (omega arith)))
+    forgotten c.blank_table.result 1 (λ w. subst (λ (t : List Seen). (seen_at t w).stamp < 1) (sym c.blank_table.ensures) (subst (λ (s : Seen). s.stamp < 1) (sym (unseen_at 4096 w)) (omega arith)))

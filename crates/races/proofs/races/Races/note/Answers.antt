@@ -4,20 +4,17 @@ use Rattle.races.specs.declared.seen.Seen.{Seen}
 use Rattle.races.proofs.Notes.{tells_past, tells_entered, noted_stamp, entered_up_to}
 use Rattle.races.proofs.races.Races.note.Goals as goal
 
-pub invariant-of-self : goal.invariant-of-self
-invariant-of-self c =
-    let here = c.args.self.now in (
-      length-set here.seen _ _ ∙ here.full,
-      (
-        here.begun,
-        (
+pub invariant_of-self : goal.invariant_of-self
+invariant_of-self c =
+    let here = c.args.self.now in
+    record {
+      full = length-set here.seen _ _ ∙ here.full;
+      begun = here.begun;
+      older =
           entered_up_to here.seen here.stamp c.args.word c.with-seen.result
               (ap (λ (s : Seen). s.stamp) c.with-seen.ensures ∙ (noted_stamp c.args.access c.current.result c.args.core ∙ ap (λ (s : Seen). s.stamp) c.current.ensures))
-              here.older,
-          tt,
-        ),
-      ),
-    )
+              here.older;
+    }
 
 pub returns-then-word-ge4096 : goal.returns-then-word-ge4096
 returns-then-word-ge4096 c accesses told =
