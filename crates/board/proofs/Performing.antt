@@ -25,7 +25,7 @@ module _ {P S : Type 0} (words : P → List Word) (ops : Operations S) where
       record {
         figures = figures;
         size = size;
-        some = b.races.told;
+        some = b.some;
         rules = λ accesses m.
             subst (λ (o : Option Refusal). Left words ops b after (Refused r) (outcome o (setting_of b) (ops.holds b.signature) (view words b accesses) c)) (told accesses m)
             (record { answer = refl; state = same accesses; remembers = remembers accesses m; signature = signature });
@@ -41,7 +41,7 @@ module _ {P S : Type 0} (words : P → List Word) (ops : Operations S) where
       record {
         figures = p.figures;
         size = p.size;
-        some = before.races.told;
+        some = before.some;
         rules = λ accesses m.
             subst (λ (o : Option Refusal). Left words ops before after a (outcome o (setting_of before) (ops.holds before.signature) (view words before accesses) c)) (told accesses m) (p.rules accesses m);
       }

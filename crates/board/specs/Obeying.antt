@@ -7,13 +7,13 @@ use Rattle.call.specs.declared.answer.AnswerRecord.{AnswerRecord}
 use Rattle.call.specs.declared.call.Call.{Call}
 use Rattle.call.specs.declared.refusal.Refusal.{Refusal}
 use Rattle.memory.specs.Views as memory
-use Rattle.races.specs.Remembered.{Remembers, remembered}
-use Rattle.races.specs.Tables.{Told}
+use Rattle.races.specs.Remembered.{Remembers}
 use Rattle.rules.specs.Refusals.{refusal}
 use Rattle.rules.specs.State.{Accessed}
 use Rattle.rules.specs.Steps.{Operations, Outcome, outcome, step, changed_by}
 use Rattle.word.specs.declared.mark.Mark.{Mark}
 use Rattle.word.specs.declared.word.Word.{Word}
+use Rattle.board.specs.Memories.{RemembersSome}
 use Rattle.board.specs.Views.{setting_of, ledger_of, view}
 use Rattle.board.specs.declared.board.Board.{Board}
 
@@ -40,7 +40,7 @@ module _ {P S : Type 0} (words : P → List Word) (ops : Operations S) where
   pub record Obeys (before after : Board P S) (c : Call) (a : Answer) : Type 0 where
     pub figures : after.memory.figures ≡ before.memory.figures
     pub size : after.size ≡ before.size
-    pub some : Told (remembered before.races)
+    pub some : RemembersSome before.races
     pub rules :
         (accesses : List Accessed) → Remembers before.races accesses
         → Left before after a (step (setting_of before) (ops.holds before.signature) (view words before accesses) c)

@@ -1,5 +1,6 @@
 //! A board. The type stands apart from its methods, since a type with a ghost field takes in all that its file names.
 ghost use Rattle.std.specs.Prelude.{◌≡◌, ◌≤◌, length};
+ghost use Rattle.board.specs.Memories.{RemembersSome};
 
 use locks::Locks;
 use memory::Memory;
@@ -28,4 +29,5 @@ pub struct Board<P, S> {
     size: u16,
     ghost eight: { length counts ≡ 8 },
     ghost most: { size ≤ 4096 },
+    ghost some: { RemembersSome races },
 }

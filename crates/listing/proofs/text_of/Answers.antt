@@ -6,19 +6,19 @@ use Rattle.listing.specs.Lines.{figures_line, call_lines, text_of}
 use Rattle.listing.proofs.Apart.{lines_apart}
 use Rattle.listing.proofs.text_of.Goals as goal
 
-pub returns-in-ok-text : goal.returns-in-ok-text
-returns-in-ok-text c =
+pub returns-in_ok-text-in-Ok : goal.returns-in_ok-text-in-Ok
+returns-in_ok-text-in-Ok c =
     let job = c.args.job in
-    let head = c.in-ok-text.ensures in
+    let head = c.in_ok-text-in-Ok.ensures in
     let count = c.records.ensures in
-    let whole : string_bytes c.in-ok-text.text ++ call_lines 1 (rest job) ≡ text_of (verdict_of job) (calls_of job) =
+    let whole : string_bytes c.in_ok-text-in-Ok.text ++ call_lines 1 (rest job) ≡ text_of (verdict_of job) (calls_of job) =
     (λ i. head i ++ call_lines 1 (c.requires i))
     ∙ (λ i. figures_line (figures c.in-Ok.figures) (count i) ++ call_lines 1 (calls_of job))
     ∙ (λ i. text_of (c.in-Ok.ensures i) (calls_of job)) in
-    record { value = IfOk-weaker c.with-calls.result _ _ (λ s e. e ∙ whole) c.with-calls.ensures; apart = lines_apart }
+    record { value = IfOk-weaker c.with_calls.result _ _ (λ s e. e ∙ whole) c.with_calls.ensures; apart = lines_apart }
 
-pub returns-in-err-text : goal.returns-in-err-text
-returns-in-err-text c = record { value = search rules; apart = lines_apart }
+pub returns-in_err-text-in-Ok : goal.returns-in_err-text-in-Ok
+returns-in_err-text-in-Ok c = record { value = search rules; apart = lines_apart }
 
 pub returns-in-Err : goal.returns-in-Err
 returns-in-Err c = record { value = search rules; apart = lines_apart }

@@ -11,12 +11,12 @@ pub returns-in-Evict : goal.returns-in-Evict
 returns-in-Evict c =
     subst (λ (x : Call). IfOk c.format-in-Evict.result (λ s. string_bytes s ≡ call_line c.args.number x)) (sym c.in-Evict.is) c.format-in-Evict.ensures.ok
 
-pub returns-in-ok-strips : goal.returns-in-ok-strips
-returns-in-ok-strips c =
+pub returns-in_ok-strips-in-Phase : goal.returns-in_ok-strips-in-Phase
+returns-in_ok-strips-in-Phase c =
     let line : List ℕ → List ℕ =
     λ b. decimal c.args.number ++ (codes " conductor phase plan " ++ (decimal c.in-Phase.plan ++ (codes " strips" ++ (b ++ newline)))) in
     subst (λ (x : Call). IfOk c.format-in-Phase.result (λ s. string_bytes s ≡ call_line c.args.number x)) (sym c.in-Phase.is)
-    (subst (λ (b : List ℕ). IfOk c.format-in-Phase.result (λ s. string_bytes s ≡ line b)) c.in-ok-strips.ensures c.format-in-Phase.ensures.ok)
+    (subst (λ (b : List ℕ). IfOk c.format-in-Phase.result (λ s. string_bytes s ≡ line b)) c.in_ok-strips-in-Phase.ensures c.format-in-Phase.ensures.ok)
 
 pub returns-in-Settle : goal.returns-in-Settle
 returns-in-Settle c =

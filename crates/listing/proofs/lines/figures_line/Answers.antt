@@ -7,4 +7,4 @@ pub returns : goal.returns
 returns c =
     let numbers : five c.cores.result c.slots.result c.words.result c.strip.result c.allowance.result ≡ figures c.args.figures.now =
     λ i. five (c.cores.ensures i) (c.slots.ensures i) (c.words.ensures i) (c.strip.ensures i) (c.allowance.ensures i) in
-    subst (λ (f : Five). IfOk c.numbers-line.result (λ s. string_bytes s ≡ figures_line f c.args.records)) numbers c.numbers-line.ensures
+    subst (λ (f : Five). IfOk c.numbers_line.result (λ s. string_bytes s ≡ figures_line f c.args.records)) numbers c.numbers_line.ensures

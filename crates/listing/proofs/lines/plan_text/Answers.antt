@@ -10,20 +10,20 @@ use Rattle.listing.proofs.lines.plan_text.Goals as goal
 pub returns-then-plan-eq0 : goal.returns-then-plan-eq0
 unfolding plan_text
 returns-then-plan-eq0 c =
-    subst (λ (p : ℕ). IfOk c.from-str.result (λ s. string_bytes s ≡ plan_text p)) (sym c.if-plan-eq0.true) c.from-str.ensures.ok
+    subst (λ (p : ℕ). IfOk c.from_str.result (λ s. string_bytes s ≡ plan_text p)) (sym c.if-plan-eq0.true) c.from_str.ensures.ok
 
-pub returns-in-err-push-str : goal.returns-in-err-push-str
-returns-in-err-push-str c =
-    let p = err_from_is_err_and c.from-residual-in-err-push-str.result c.from-residual-in-err-push-str.ensures.1 in rw p.1 tt
+pub returns-in_err-push_str : goal.returns-in_err-push_str
+returns-in_err-push_str c =
+    let p = err_from_is_err_and c.from_residual-in_err-push_str.result c.from_residual-in_err-push_str.ensures.1 in rw p.1 tt
 
 pub loop-strip-preserved : goal.loop-strip-preserved
 loop-strip-preserved c =
-    let piece = c.as-str.result.now in
+    let piece = c.as_str.result.now in
     let strip = c.loop-strip.strip in
     let left = c.loop-strip.left in
-    let longer = pushed piece refl c.in-ok-push-str.was c.push-str.ensures.bytes in
+    let longer = pushed piece refl c.in_ok-push_str.was c.push_str.ensures.bytes in
     ap (λ (b : List ℕ). b ++ strips_text (strip + 1) (modes (16 - (strip + 1)) (left / 16))) longer
-    ∙ sym (strip_step (string_bytes c.loop-strip.text) piece strip left c.loop-strip-test.true (c.as-str.ensures.value ∙ c.in-ok-piece.ensures))
+    ∙ sym (strip_step (string_bytes c.loop-strip.text) piece strip left c.loop-strip-test.true (c.as_str.ensures.value ∙ c.in_ok-piece.ensures))
     ∙ c.loop-strip.invariant
 
 pub returns : goal.returns

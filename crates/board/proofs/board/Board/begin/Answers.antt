@@ -6,13 +6,13 @@ use Rattle.board.proofs.board.Board.begin.Goals as goal
 pub returns : goal.returns
 returns g c =
     record {
-      figures = c.turn-plan-dropped.ensures.figures;
+      figures = c.turn_plan-dropped.ensures.figures;
       size = refl;
       rules = λ accesses m.
           record {
-            answer = ap Done c.turn-plan-dropped.ensures.answer;
-            state = same_state c.turn-plan-dropped.ensures.after c.forget-releasers.ensures refl c.turn-plan-dropped.ensures.plan;
+            answer = ap Done c.turn_plan-dropped.ensures.answer;
+            state = same_state c.turn_plan-dropped.ensures.after c.forget_releasers.ensures refl c.turn_plan-dropped.ensures.plan;
             remembers = c.forget.ensures.told;
-            signature = c.clear-all.ensures;
+            signature = c.clear_all.ensures;
           };
     }

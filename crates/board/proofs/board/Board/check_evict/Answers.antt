@@ -3,4 +3,4 @@ use Rattle.board.proofs.board.Board.check_evict.Goals as goal
 
 pub returns : goal.returns
 returns g c =
-    record { decides = check_decides _ _ _ _ c.check-word.result c.check-word.ensures.told; within = c.check-word.ensures.within }
+    record { decides = check_decides _ _ _ _ c.check_word.result c.check_word.ensures.told; within = c.check_word.ensures.within }

@@ -3,4 +3,4 @@ use Rattle.board.proofs.board.Board.check_load.Goals as goal
 
 pub returns : goal.returns
 returns g c =
-    record { decides = check_decides _ _ _ _ c.check-load-rows.result c.check-load-rows.ensures.told; within = c.check-load-rows.ensures.within }
+    record { decides = check_decides _ _ _ _ c.check_load_rows.result c.check_load_rows.ensures.told; within = c.check_load_rows.ensures.within }

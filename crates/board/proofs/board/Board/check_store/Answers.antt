@@ -3,4 +3,4 @@ use Rattle.board.proofs.board.Board.check_store.Goals as goal
 
 pub returns : goal.returns
 returns g c =
-    record { decides = λ value. check_decides _ _ _ _ c.check-store-rows.result (c.check-store-rows.ensures.told value); within = c.check-store-rows.ensures.within; allowed = c.check-store-rows.ensures.allowed }
+    record { decides = λ value. check_decides _ _ _ _ c.check_store_rows.result (c.check_store_rows.ensures.told value); within = c.check_store_rows.ensures.within; allowed = c.check_store_rows.ensures.allowed }

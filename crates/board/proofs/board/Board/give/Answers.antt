@@ -5,9 +5,9 @@ use Rattle.board.proofs.board.Board.give.Goals as goal
 
 pub returns : goal.returns
 returns g c =
-    let word = rw (c.core-at.ensures, c.place-at.ensures, c.may-be-old-again.ensures) at c.load-found.ensures.word in
-    let source = rw (c.core-at.ensures, c.place-at.ensures, c.may-be-old-again.ensures) at c.load-found.ensures.source in
-    let after = rw (c.core-at.ensures, c.place-at.ensures, c.may-be-old-again.ensures) at c.load-found.ensures.after in
+    let word = rw (c.core_at.ensures, c.place_at.ensures, c.may_be_old-again.ensures) at c.load-found.ensures.word in
+    let source = rw (c.core_at.ensures, c.place_at.ensures, c.may_be_old-again.ensures) at c.load-found.ensures.source in
+    let after = rw (c.core_at.ensures, c.place_at.ensures, c.may_be_old-again.ensures) at c.load-found.ensures.after in
     record {
       figures = c.load-found.ensures.figures;
       size = refl;

@@ -1,4 +1,4 @@
 use Rattle.board.proofs.board.Board.load.Goals as goal
 
 pub returns : goal.returns
-returns g c = c.in-ok-check-load.ensures.decides _ _ c.give.ensures
+returns g c = c.in_ok-check_load.ensures.decides _ _ c.give.ensures

@@ -22,5 +22,5 @@ returns g c =
       state =
           same_state (ap (memory.view words) made.memory ∙ c.open-memory.ensures.after) made.locks (ap counts_of made.counts ∙ no_counts 8) made.plan;
       remembers = made.remembers;
-      signature = made.signature ∙ c.clear-all.ensures;
+      signature = made.signature ∙ c.clear_all.ensures;
     }

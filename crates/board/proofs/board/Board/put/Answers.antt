@@ -5,21 +5,21 @@ use Rattle.board.proofs.Counts.{counts_set}
 use Rattle.board.proofs.Performing.{same_state}
 use Rattle.board.proofs.board.Board.put.Goals as goal
 
-pub overflow-add-self : goal.overflow-add-self
+pub overflow_add-self : goal.overflow_add-self
 unfolding counts_of
-overflow-add-self g c = omega (arith, c.requires)
+overflow_add-self g c = omega (arith, c.requires)
 
 pub returns : goal.returns
 unfolding counts_of
 returns g c =
-    let answer = rw (c.core-at.ensures, c.place-at.ensures, c.next-mark-mark.ensures) at c.store-answer.ensures.answer in
-    let after = rw (c.core-at.ensures, c.place-at.ensures, c.next-mark-mark.ensures) at c.store-answer.ensures.after in
+    let answer = rw (c.core_at.ensures, c.place_at.ensures, c.next_mark-mark.ensures) at c.store-answer.ensures.answer in
+    let after = rw (c.core_at.ensures, c.place_at.ensures, c.next_mark-mark.ensures) at c.store-answer.ensures.after in
     record {
       figures = c.store-answer.ensures.figures;
       size = refl;
       rules = λ accesses m.
           record {
-            answer = λ i. Stored (answer i) (c.next-mark-mark.ensures i);
+            answer = λ i. Stored (answer i) (c.next_mark-mark.ensures i);
             state = same_state after refl (counts_set c.args.self.now.counts c.args.core _ (omega (arith, c.args.self.now.eight))) refl;
             remembers = c.note.ensures.told accesses m;
             signature = rw c.mode-mode.ensures at c.sign.ensures;

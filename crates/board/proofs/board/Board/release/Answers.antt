@@ -9,30 +9,30 @@ use Rattle.board.proofs.Performing.{same_state, refused_leaves, performed_obeys}
 use Rattle.board.proofs.Turns.{release_told, told_err, told_ok, left_refused, left_done, passed_tells}
 use Rattle.board.proofs.board.Board.release.Goals as goal
 
-pub returns-in-err-next : goal.returns-in-err-next
-returns-in-err-next g c =
+pub returns-in_err-next : goal.returns-in_err-next
+returns-in_err-next g c =
     let b = c.args.self.now in
-    let p = err_from_is_err_and c.from-residual-in-err-next.result c.from-residual-in-err-next.ensures.1 in
-    let rows = release_told (locks_of b.locks) (figures b.memory.figures).cores c.args.core c.args.lock c.in-ok-check-core.ensures.within c.in-ok-check-core.ensures.told in
-    let met = told_err _ _ _ c.in-err-next.ensures.answer in
-    rw (p.1, p.2) (refused_leaves _ _ _ _ _ _ (λ accesses m. met ∙ rows) refl refl (λ accesses. same_state refl (c.in-err-next.ensures.after ∙ left_refused _ _ _ _ met) refl refl) (λ accesses m. m) refl)
+    let p = err_from_is_err_and c.from_residual-in_err-next.result c.from_residual-in_err-next.ensures.1 in
+    let rows = release_told (locks_of b.locks) (figures b.memory.figures).cores c.args.core c.args.lock c.in_ok-check_core.ensures.within c.in_ok-check_core.ensures.told in
+    let met = told_err _ _ _ c.in_err-next.ensures.answer in
+    rw (p.1, p.2) (refused_leaves _ _ _ _ _ _ (λ accesses m. met ∙ rows) refl refl (λ accesses. same_state refl (c.in_err-next.ensures.after ∙ left_refused _ _ _ _ met) refl refl) (λ accesses m. m) refl)
 
 pub returns : goal.returns
 returns g c =
     let b = c.args.self.now in
     let ops = operations g.S.Signature.holds g.S.Signature.put_of g.S.Signature.take_in_of g.S.Signature.clear_of in
-    let rows = release_told (locks_of b.locks) (figures b.memory.figures).cores c.args.core c.args.lock c.in-ok-check-core.ensures.within c.in-ok-check-core.ensures.told in
-    let got = told_ok _ _ _ c.in-ok-next.ensures.answer in
-    let tells = passed_tells (locks_of b.locks c.args.lock).queue c.in-ok-next.next c.args.core got.1 in
+    let rows = release_told (locks_of b.locks) (figures b.memory.figures).cores c.args.core c.args.lock c.in_ok-check_core.ensures.within c.in_ok-check_core.ensures.told in
+    let got = told_ok _ _ _ c.in_ok-next.ensures.answer in
+    let tells = passed_tells (locks_of b.locks c.args.lock).queue c.in_ok-next.next c.args.core got.1 in
     performed_obeys _ _ _ _ _ _ (λ accesses m. got.0 ∙ rows)
     (record {
       figures = refl;
       size = refl;
       rules = λ accesses m.
           record {
-            answer = ap Done (c.hand-on.ensures.answer ∙ tells.0);
-            state = same_state refl (c.in-ok-next.ensures.after ∙ left_done _ _ _ got.0) refl refl;
+            answer = ap Done (c.hand_on.ensures.answer ∙ tells.0);
+            state = same_state refl (c.in_ok-next.ensures.after ∙ left_done _ _ _ got.0) refl refl;
             remembers = m;
-            signature = c.hand-on.ensures.after ∙ ap (changed_by ops b.signature) tells.1;
+            signature = c.hand_on.ensures.after ∙ ap (changed_by ops b.signature) tells.1;
           };
     })
