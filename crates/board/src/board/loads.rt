@@ -17,7 +17,7 @@ use word::Word;
 impl<P: PageStore, S: Signature> Board<P, S> {
     // Whether the core may have an old copy of the word: in a locked strip, where its signature holds the word.
     fn may_be_old(&self, core: u8, word: u16) -> bool
-        ensures { result ≡ is_locked (mode_of (figures self.now.memory.figures) self.now.plan word) && holds self.now.signature core word }
+        ensures { result ≡ is_locked (mode_of (figures self.now.memory.figures) self.now.plan word) && S.holds self.now.signature core word }
     {
         match self.mode(word) {
             Mode::ReadOnly => false,

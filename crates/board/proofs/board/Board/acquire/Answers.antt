@@ -5,7 +5,7 @@ use Rattle.call.specs.declared.answer.Answer.TheVariants.{Done}
 use Rattle.locks.specs.Views.{locks_of}
 use Rattle.rules.specs.Steps.{changed_by}
 use Rattle.board.specs.Obeying.{operations}
-use Rattle.board.proofs.Performing.{same_state, refused_leaves, performed_obeys}
+use Rattle.board.proofs.Performing.{same_state}
 use Rattle.board.proofs.Turns.{acquire_told, told_err, told_ok, left_refused, left_done, grant_tells, queue_tells}
 use Rattle.board.proofs.board.Board.acquire.Goals as goal
 
@@ -15,7 +15,20 @@ returns-in_err-last g c =
     let p = err_from_is_err_and c.from_residual-in_err-last.result c.from_residual-in_err-last.ensures.1 in
     let rows = acquire_told (locks_of b.locks) (figures b.memory.figures).cores c.args.core c.args.lock c.in_ok-check_core.ensures.within c.in_ok-check_core.ensures.told in
     let met = told_err _ _ _ c.in_err-last.ensures.answer in
-    rw (p.1, p.2) (refused_leaves _ _ _ _ _ _ (λ accesses m. met ∙ rows) refl refl (λ accesses. same_state refl (c.in_err-last.ensures.after ∙ left_refused _ _ _ _ met) refl refl) (λ accesses m. m) refl)
+    rw (p.1, p.2)
+    (record {
+      figures = refl;
+      size = refl;
+      some = b.some;
+      rules = λ accesses m.
+          rw (sym (met ∙ rows))
+          (record {
+            answer = refl;
+            state = same_state refl (c.in_err-last.ensures.after ∙ left_refused _ _ _ _ met) refl refl;
+            remembers = m;
+            signature = refl;
+          });
+    })
 
 pub returns-in-Granted : goal.returns-in-Granted
 returns-in-Granted g c =
@@ -24,18 +37,19 @@ returns-in-Granted g c =
     let rows = acquire_told (locks_of b.locks) (figures b.memory.figures).cores c.args.core c.args.lock c.in_ok-check_core.ensures.within c.in_ok-check_core.ensures.told in
     let got = told_ok _ _ _ c.in_ok-last.ensures.answer in
     let tells = grant_tells (locks_of b.locks c.args.lock).holder c.in-Granted.last (locks_of b.locks c.args.lock) c.args.core (sym c.in-Granted.is ∙ got.1) in
-    performed_obeys _ _ _ _ _ _ (λ accesses m. got.0 ∙ rows)
-    (record {
+    record {
       figures = refl;
       size = refl;
+      some = b.some;
       rules = λ accesses m.
-          record {
+          rw (sym (got.0 ∙ rows))
+          (record {
             answer = ap Done tells.0;
             state = same_state refl (c.in_ok-last.ensures.after ∙ left_done _ _ _ got.0) refl refl;
             remembers = m;
             signature = c.take_from.ensures ∙ ap (changed_by ops b.signature) tells.1;
-          };
-    })
+          });
+    }
 
 pub returns-in-Queued : goal.returns-in-Queued
 returns-in-Queued g c =
@@ -44,15 +58,16 @@ returns-in-Queued g c =
     let rows = acquire_told (locks_of b.locks) (figures b.memory.figures).cores c.args.core c.args.lock c.in_ok-check_core.ensures.within c.in_ok-check_core.ensures.told in
     let got = told_ok _ _ _ c.in_ok-last.ensures.answer in
     let tells = queue_tells (locks_of b.locks c.args.lock).holder (locks_of b.locks c.args.lock) c.args.core (sym c.in-Queued.is ∙ got.1) in
-    performed_obeys _ _ _ _ _ _ (λ accesses m. got.0 ∙ rows)
-    (record {
+    record {
       figures = refl;
       size = refl;
+      some = b.some;
       rules = λ accesses m.
-          record {
+          rw (sym (got.0 ∙ rows))
+          (record {
             answer = ap Done tells.0;
             state = same_state refl (c.in_ok-last.ensures.after ∙ left_done _ _ _ got.0) refl refl;
             remembers = m;
             signature = ap (changed_by ops b.signature) tells.1;
-          };
-    })
+          });
+    }

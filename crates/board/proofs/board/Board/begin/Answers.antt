@@ -12,7 +12,7 @@ returns g c =
           record {
             answer = ap Done c.turn_plan-dropped.ensures.answer;
             state = same_state c.turn_plan-dropped.ensures.after c.forget_releasers.ensures refl c.turn_plan-dropped.ensures.plan;
-            remembers = c.forget.ensures.told;
+            remembers = c.forget.ensures;
             signature = c.clear_all.ensures;
           };
     }

@@ -1,7 +1,11 @@
 use Rattle.std.proofs.Common.{refl}
 use Rattle.call.specs.declared.answer.Answer.TheVariants.{Loaded}
 use Rattle.board.proofs.Performing.{same_state}
+use Rattle.board.proofs.Remembering.{some_kept}
 use Rattle.board.proofs.board.Board.give.Goals as goal
+
+pub invariant_of-self-clause-some : goal.invariant_of-self-clause-some
+invariant_of-self-clause-some g c = some_kept c.args.self.now.races c.note.new.self _ c.note.ensures c.args.self.now.some
 
 pub returns : goal.returns
 returns g c =
@@ -15,7 +19,7 @@ returns g c =
           record {
             answer = λ i. Loaded (word i) (source i);
             state = same_state after refl refl refl;
-            remembers = c.note.ensures.told accesses m;
+            remembers = c.note.ensures accesses m;
             signature = refl;
           };
     }

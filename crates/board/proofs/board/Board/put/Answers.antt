@@ -3,11 +3,15 @@ use Rattle.call.specs.declared.answer.Answer.TheVariants.{Stored}
 use Rattle.board.specs.Views.{counts_of}
 use Rattle.board.proofs.Counts.{counts_set}
 use Rattle.board.proofs.Performing.{same_state}
+use Rattle.board.proofs.Remembering.{some_kept}
 use Rattle.board.proofs.board.Board.put.Goals as goal
 
 pub overflow_add-self : goal.overflow_add-self
 unfolding counts_of
 overflow_add-self g c = omega (arith, c.requires)
+
+pub invariant_of-self-clause-some : goal.invariant_of-self-clause-some
+invariant_of-self-clause-some g c = some_kept c.args.self.now.races c.note.new.self _ c.note.ensures c.args.self.now.some
 
 pub returns : goal.returns
 unfolding counts_of
@@ -21,7 +25,7 @@ returns g c =
           record {
             answer = λ i. Stored (answer i) (c.next_mark-mark.ensures i);
             state = same_state after refl (counts_set c.args.self.now.counts c.args.core _ (omega (arith, c.args.self.now.eight))) refl;
-            remembers = c.note.ensures.told accesses m;
+            remembers = c.note.ensures accesses m;
             signature = rw c.mode-mode.ensures at c.sign.ensures;
           };
     }

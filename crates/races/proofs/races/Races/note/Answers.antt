@@ -12,8 +12,8 @@ invariant_of-self c =
       begun = here.begun;
       older =
           entered_up_to here.seen here.stamp c.args.word c.with-seen.result
-              (ap (λ (s : Seen). s.stamp) c.with-seen.ensures ∙ (noted_stamp c.args.access c.current.result c.args.core ∙ ap (λ (s : Seen). s.stamp) c.current.ensures))
-              here.older;
+          (ap (λ (s : Seen). s.stamp) c.with-seen.ensures ∙ (noted_stamp c.args.access c.current.result c.args.core ∙ ap (λ (s : Seen). s.stamp) c.current.ensures))
+          here.older;
     }
 
 pub returns-then-word-ge4096 : goal.returns-then-word-ge4096
