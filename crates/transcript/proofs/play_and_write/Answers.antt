@@ -5,19 +5,19 @@ use Rattle.transcript.specs.Transcripts.{text_of, fields_of, outcome_text, outco
 use Rattle.transcript.proofs.Texts.{within, same_text, same_fields}
 use Rattle.transcript.proofs.play_and_write.Goals as goal
 
-pub write-outcome-size-requires : goal.write-outcome-size-requires
-write-outcome-size-requires g c = within _ _ _ _ _ _ (verdict c.args.bytes.now (length c.args.answers.now)) c.play-job-outcome.result c.play-job-outcome.ensures
+pub write_outcome-size-requires : goal.write_outcome-size-requires
+write_outcome-size-requires g c = within _ _ _ _ _ _ (verdict c.args.bytes.now (length c.args.answers.now)) c.play_job-outcome.result c.play_job-outcome.ensures
 
 pub returns : goal.returns
 returns g c =
     let words = g.P.PageStore.words in
     let ops = operations g.S.Signature.holds g.S.Signature.put_of g.S.Signature.take_in_of g.S.Signature.clear_of in
     let v = verdict c.args.bytes.now (length c.args.answers.now) in
-    let o = c.play-job-outcome.result in
-    let after = c.play-job-outcome.new.answers in
+    let o = c.play_job-outcome.result in
+    let after = c.play_job-outcome.new.answers in
     record {
-      played = c.play-job-outcome.ensures;
+      played = c.play_job-outcome.ensures;
       text =
-          subst (λ (t : List ℕ). Written t c.args.out.now c.write-outcome-size.new.out (fields_of v) c.write-outcome-size.result) (same_text words ops c.args.page c.args.signature c.args.answers.now after v o c.play-job-outcome.ensures)
-          (subst (λ (n : ℕ). Written (outcome_text o after) c.args.out.now c.write-outcome-size.new.out n c.write-outcome-size.result) (same_fields words ops c.args.page c.args.signature c.args.answers.now after v o c.play-job-outcome.ensures) c.write-outcome-size.ensures);
+          subst (λ (t : List ℕ). Written t c.args.out.now c.write_outcome-size.new.out (fields_of v) c.write_outcome-size.result) (same_text words ops c.args.page c.args.signature c.args.answers.now after v o c.play_job-outcome.ensures)
+          (subst (λ (n : ℕ). Written (outcome_text o after) c.args.out.now c.write_outcome-size.new.out n c.write_outcome-size.result) (same_fields words ops c.args.page c.args.signature c.args.answers.now after v o c.play_job-outcome.ensures) c.write_outcome-size.ensures);
     }

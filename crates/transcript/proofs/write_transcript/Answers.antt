@@ -8,5 +8,5 @@ pub returns : goal.returns
 returns c =
     let v = verdict c.args.bytes.now (length c.args.answers.now) in
     let page = c.new-page.ensures.same ∙ c.new.ensures in
-    let text = subst (λ (t : List ℕ). Written t c.args.out.now c.play-and-write.new.out (fields_of v) c.play-and-write.result.size) (λ i. text_of bloom (page i) (c.new-2.ensures.value i) v) c.play-and-write.ensures.text in
-    record { played = plays_fresh c.new-page.result c.new-2.result c.args.answers.now c.play-and-write.new.answers page c.new-2.ensures.value v c.play-and-write.result.outcome c.play-and-write.ensures.played; text = text; within = fits _ _ _ _ _ text c.play-and-write.auto.out }
+    let text = subst (λ (t : List ℕ). Written t c.args.out.now c.play_and_write.new.out (fields_of v) c.play_and_write.result.size) (λ i. text_of bloom (page i) (c.new-2.ensures.value i) v) c.play_and_write.ensures.text in
+    record { played = plays_fresh c.new-page.result c.new-2.result c.args.answers.now c.play_and_write.new.answers page c.new-2.ensures.value v c.play_and_write.result.outcome c.play_and_write.ensures.played; text = text; within = fits _ _ _ _ _ text c.play_and_write.auto.out }

@@ -16,7 +16,7 @@ bounds-answers-made g c =
 
 pub loop-call-smaller : goal.loop-call-smaller
 loop-call-smaller g c =
-    fewer (rest c.loop-call.job) (rest c.next-call.new.self) c.in-Some.call c.in-Some.ensures.value c.next-call.ensures.after
+    fewer (rest c.loop-call.job) (rest c.next_call.new.self) c.in-Some.call c.in-Some.ensures.value c.next_call.ensures.after
 
 pub loop-call-preserved : goal.loop-call-preserved
 loop-call-preserved g c =
@@ -27,7 +27,7 @@ loop-call-preserved g c =
     let read = read_call calls made c.in-Some.call (c.in-Some.ensures.value ∙ ap first c.loop-call.invariant.2) in (
       ap (λ (n : ℕ). n) (length-set _ _ _) ∙ c.loop-call.invariant.0,
       omega (arith, read.there),
-      c.next-call.ensures.after ∙ (ap (drop 1) c.loop-call.invariant.2 ∙ rw add-one read.past),
+      c.next_call.ensures.after ∙ (ap (drop 1) c.loop-call.invariant.2 ∙ rw add-one read.past),
       plays_next words ops c.args.board.now c.loop-call.board c.«record».new.self calls made c.in-Some.call c.«record».result.answer c.«record».result c.args.answers.now c.loop-call.answers
           read.there
           (omega (arith, read.there, c.requires.1))
@@ -41,7 +41,7 @@ returns g c =
     let words = g.P.PageStore.words in
     let ops = operations g.S.Signature.holds g.S.Signature.put_of g.S.Signature.take_in_of g.S.Signature.clear_of in
     let calls = calls_of c.args.job in
-    let over = all_read calls c.loop-call.made (c.in-default.ensures.value ∙ ap first c.loop-call.invariant.2) in
+    let over = all_read calls c.loop-call.made (c.in_default.ensures.value ∙ ap first c.loop-call.invariant.2) in
     let all : c.loop-call.made ≡ length calls = omega (arith, over, c.loop-call.invariant.1) in
     record {
       made = all;

@@ -22,12 +22,12 @@ returns-in-Ok g c =
     let opened = c.open-job.ensures in
     let ok = accepted (reading c.args.bytes.now) (figures c.in-Ok.figures) (length c.args.answers.now) (opened_as _ _ _ _ _ _ opened.value opened.calls c.in-Ok.ensures) in
     let board = c.open-board.ensures in
-    let run = runs words ops (record { puts = sentences.puts; takes_in = sentences.takes_in; clears = sentences.clears }) (figures c.in-Ok.figures) (words c.args.page) c.args.signature c.open-board.result c.play-all-made.new.board (calls_of c.open-job.result) c.args.answers.now c.play-all-made.new.answers (figures_checked c.in-Ok.figures) (ap figures board.figures) board.size board.state board.remembers board.signature c.play-all-made.ensures.plays in
+    let run = runs words ops (record { puts = sentences.puts; takes_in = sentences.takes_in; clears = sentences.clears }) (figures c.in-Ok.figures) (words c.args.page) c.args.signature c.open-board.result c.play_all-made.new.board (calls_of c.open-job.result) c.args.answers.now c.play_all-made.new.answers (figures_checked c.in-Ok.figures) (ap figures board.figures) board.size board.state board.remembers board.signature c.play_all-made.ensures.plays in
     let calls : calls_of c.open-job.result ≡ ok.what.calls = opened.calls ∙ ok.calls in
-    subst (λ (v : Result Says JobFault). PlaysJob words ops c.args.page c.args.signature c.args.answers.now c.play-all-made.new.answers v (Played c.play-all-made.new.board c.play-all-made.result)) (sym ok.verdict) (
-      c.play-all-made.ensures.made ∙ ap length calls,
-      subst (λ (cs : List Call). Runs words ops ok.what.figures (words c.args.page) c.args.signature cs c.args.answers.now c.play-all-made.new.answers c.play-all-made.new.board) calls
-          (subst (λ (f : Five). Runs words ops f (words c.args.page) c.args.signature (calls_of c.open-job.result) c.args.answers.now c.play-all-made.new.answers c.play-all-made.new.board) ok.figures run),
+    subst (λ (v : Result Says JobFault). PlaysJob words ops c.args.page c.args.signature c.args.answers.now c.play_all-made.new.answers v (Played c.play_all-made.new.board c.play_all-made.result)) (sym ok.verdict) (
+      c.play_all-made.ensures.made ∙ ap length calls,
+      subst (λ (cs : List Call). Runs words ops ok.what.figures (words c.args.page) c.args.signature cs c.args.answers.now c.play_all-made.new.answers c.play_all-made.new.board) calls
+          (subst (λ (f : Five). Runs words ops f (words c.args.page) c.args.signature (calls_of c.open-job.result) c.args.answers.now c.play_all-made.new.answers c.play_all-made.new.board) ok.figures run),
     )
 
 pub returns-in-Err : goal.returns-in-Err
@@ -36,6 +36,6 @@ returns-in-Err g c =
     let ops = operations g.S.Signature.holds g.S.Signature.put_of g.S.Signature.take_in_of g.S.Signature.clear_of in
     let opened = c.open-job.ensures in
     let no_job = refused (reading c.args.bytes.now) c.in-Err.fault (length c.args.answers.now) (opened_as _ _ _ _ _ _ opened.value opened.calls c.in-Err.ensures) in
-    subst (λ (o : Outcome _ _). PlaysJob words ops c.args.page c.args.signature c.args.answers.now c.args.answers.now (verdict c.args.bytes.now (length c.args.answers.now)) o) (sym c.hand-back.ensures)
+    subst (λ (o : Outcome _ _). PlaysJob words ops c.args.page c.args.signature c.args.answers.now c.args.answers.now (verdict c.args.bytes.now (length c.args.answers.now)) o) (sym c.hand_back.ensures)
     (subst (λ (v : Result Says JobFault). PlaysJob words ops c.args.page c.args.signature c.args.answers.now c.args.answers.now v (Refused c.args.page c.args.signature c.in-Err.fault)) (sym no_job)
     (refl, refl, refl, refl))
