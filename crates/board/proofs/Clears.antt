@@ -1,5 +1,5 @@
 -- Signatures cleared one after another. Assumes nothing.
-use Rattle.std.proofs.Common.{◌≡◌, ℕ, ◌+◌, List, [], ◌∷◌, ◌++◌, map, sym, refl, ap, ◌∙◌, add-one}
+use Rattle.std.proofs.Common.{◌≡◌, ℕ, ◌+◌, List, [], ◌∷◌, ◌++◌, map, refl, ap, add-one}
 use Rattle.rules.specs.Steps.{Change, clear, Operations, changed, changed_by}
 use Rattle.rules.specs.Tables.{below}
 

@@ -6,7 +6,7 @@ use Rattle.call.specs.declared.answer.Answer.TheVariants.{Refused}
 use Rattle.call.specs.declared.call.Call.{Call}
 use Rattle.call.specs.declared.refusal.Refusal.{Refusal}
 use Rattle.races.specs.Remembered.{Remembers}
-use Rattle.rules.specs.State.{Accessed, Lock, Ledger, Memory, State}
+use Rattle.rules.specs.State.{Accessed, Lock, Memory, State}
 use Rattle.rules.specs.Steps.{Operations, outcome}
 use Rattle.word.specs.declared.word.Word.{Word}
 use Rattle.board.specs.Obeying.{Checks, Left, Obeys, Performs, Decides, refused_by}

@@ -1,14 +1,13 @@
 -- Calls played in turn: one more call is one more step of the rules, one more answer, and one more record in the table.
 -- Assumes nothing.
-use Rattle.std.proofs.Common.{◌≡◌, ℕ, suc, ◌+◌, ◌-◌, ◌<◌, ◌≤◌, List, [], ◌∷◌, ◌++◌, map, length, get_or, take, drop, set, sym, refl, ap, ◌∙◌, subst, add-one, arith, length-append}
-use lib.Seq.{take-append_seam}
+use Rattle.std.proofs.Common.{◌≡◌, ℕ, suc, ◌+◌, ◌-◌, ◌<◌, List, [], ◌∷◌, ◌++◌, length, drop, set, sym, refl, ap, ◌∙◌, arith}
 use Rattle.std.proofs.lemmas.List.{append_assoc, set-append_right, drop_more}
 use Rattle.call.specs.declared.answer.Answer.{Answer}
 use Rattle.call.specs.declared.answer.AnswerRecord.{AnswerRecord}
 use Rattle.call.specs.declared.call.Call.{Call}
 use Rattle.rules.specs.Runs.{Played, answered_first, play}
 use Rattle.rules.specs.State.{State, Setting}
-use Rattle.rules.specs.Steps.{Operations, Outcome, step, changed_by}
+use Rattle.rules.specs.Steps.{Operations, step, changed_by}
 use Rattle.board.specs.Obeying.{record_of}
 use Rattle.board.specs.Runs.{records_of, answers_in}
 

@@ -1,5 +1,5 @@
 -- Acquire and release: the board has checked the core against its figures, and the locks check the rest. Assumes nothing.
-use Rattle.std.proofs.Common.{◌≡◌, ℕ, ◌<◌, false, not, leb, List, [], ◌∷◌, Some, None, Ok, Err, Option, Result, sym, refl, ap, ◌∙◌, subst, arith}
+use Rattle.std.proofs.Common.{◌≡◌, ℕ, ◌<◌, false, not, leb, List, [], ◌∷◌, Some, None, Ok, Err, Option, sym, refl, ap, ◌∙◌, subst, arith}
 use Rattle.std.proofs.lemmas.Bool.{lt-leb}
 use Rattle.call.specs.declared.refusal.Refusal.{Refusal}
 use Rattle.call.specs.declared.refusal.Refusal.TheVariants.{NoCore, Waiting, NoLock, HoldsLock, NotHeld}
@@ -7,7 +7,6 @@ use Rattle.locks.specs.Acquire.{acquire_rows}
 use Rattle.locks.specs.Refused.{answered, left}
 use Rattle.locks.specs.Release.{release_rows}
 use Rattle.locks.specs.Rows.{granted, passed_to}
-use Rattle.locks.specs.declared.grant.Grant.{Grant}
 use Rattle.locks.specs.declared.grant.Grant.TheVariants.{Granted, Queued}
 use Rattle.rules.specs.Refusals.{waits, holds, holds_some}
 use Rattle.rules.specs.State.{Lock}

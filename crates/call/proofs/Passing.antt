@@ -1,6 +1,6 @@
 -- Figures that pass every row break none. Each row is a range; the test of a range and its two sides cannot both hold.
 -- Assumes nothing.
-use Rattle.std.proofs.Common.{◌≡◌, ℕ, ◌*◌, ◌<◌, ◌≤◌, true, ◌&&◌, leb, ◌⊎◌, Ok, ⊎_elim, arith}
+use Rattle.std.proofs.Common.{◌≡◌, ℕ, ◌*◌, ◌<◌, true, ◌&&◌, leb, ◌⊎◌, Ok, ⊎_elim, arith}
 use Rattle.std.proofs.lemmas.Bool.{leb-true, and_parts}
 use Rattle.call.specs.Figures.{Five, figures, checked, Broken}
 use Rattle.call.specs.Rows.{passes_cores, passes_slots, passes_words, passes_strip, passes_allowance}

@@ -1,6 +1,6 @@
 -- The five figures as numbers, their check row by row, and what is found by them: the strip and the slot of a word.
 -- Contracts speak of these numbers and never of the inside of the checked type. Assumes nothing.
-use Rattle.std.specs.Prelude.{◌≡◌, ℕ, ◌*◌, ◌/◌, ◌%◌, ◌<◌, ◌≤◌, Bool, cond, ◌&&◌, ◌⊎◌, Ok, Err, Result}
+use Rattle.std.specs.Prelude.{◌≡◌, ℕ, ◌*◌, ◌/◌, ◌%◌, ◌<◌, cond, ◌⊎◌, Ok, Err, Result}
 use Rattle.call.specs.Rows.{passes_cores, passes_slots, passes_words, passes_strip, passes_allowance}
 use Rattle.call.specs.declared.figures.Figures.{Figures}
 use Rattle.call.specs.declared.fault.FigureFault.{FigureFault}

@@ -1,7 +1,6 @@
 -- What each case tells, its number and its values: of a refusal, of an answer and of a fault. Every promise about an
 -- answer, and every line that is printed, goes by these. Assumes nothing.
 use Rattle.std.specs.Prelude.{ℕ}
-use Rattle.word.specs.declared.word.Word.{Word}
 use Rattle.word.specs.Marks.{number}
 use Rattle.call.specs.declared.answer.Answer.{Answer}
 use Rattle.call.specs.declared.answer.Answer.TheVariants.{Loaded, Stored, Done, Refused}

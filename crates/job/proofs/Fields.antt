@@ -1,6 +1,6 @@
 -- The bytes at a place of the rest of a list are those further on in the whole list. So the payload and the caller, which
 -- a reader takes from the last nine bytes of a record, are those of the record. Assumes nothing.
-use Rattle.std.proofs.Common.{◌≡◌, ℕ, zero, suc, ◌+◌, ◌-◌, List, [], ◌∷◌, length, get_or, take, drop, Some, Option, unwrap_or, refl, ap, ◌∙◌, add-suc, arith}
+use Rattle.std.proofs.Common.{◌≡◌, ℕ, zero, suc, ◌+◌, List, ◌∷◌, length, get_or, drop, Some, Option, unwrap_or, refl, ap, ◌∙◌, add-suc, arith}
 use Rattle.std.proofs.lemmas.List.{get_or-drop, length-drop}
 use Rattle.std.specs.Int.Digits.{number_from_digits}
 use Rattle.job.specs.Bytes.{part, field}

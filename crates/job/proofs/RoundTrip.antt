@@ -1,13 +1,13 @@
 -- Whole jobs, both ways. Forward, the fields of an encoding are the numbers that were encoded, and record after record
 -- spells its call; backward, the first 16 bytes are those of the contents, and 13 bytes at a time are the record of the
 -- call that they spell. Assumes nothing.
-use Rattle.std.proofs.Common.{◌≡◌, ℕ, zero, suc, ◌+◌, ◌*◌, ◌<◌, ◌≤◌, Bool, true, false, List, [], ◌∷◌, ◌++◌, length, get_or, take, drop, IfOk, Some, None, Ok, Err, Option, Result, sym, refl, ap, ◌∙◌, subst, arith, MatchResult}
+use Rattle.std.proofs.Common.{◌≡◌, ℕ, zero, suc, ◌+◌, ◌*◌, ◌<◌, ◌≤◌, List, [], ◌∷◌, ◌++◌, length, get_or, take, drop, IfOk, Some, None, Ok, Err, Option, Result, sym, refl, ap, ◌∙◌, arith, MatchResult}
 use Rattle.std.proofs.ByRecursion.{All-take, All-drop}
 use Rattle.std.proofs.lemmas.List.{take-append-drop, length-take-le, length-drop, nil_from_length}
 use Rattle.std.specs.Option.{option_to_list}
-use Rattle.std.specs.Int.Digits.{number_from_digits, AllBelowBase}
+use Rattle.std.specs.Int.Digits.{AllBelowBase}
 use Rattle.std.specs.List.{flat_map, AllByRecursion as All}
-use Rattle.call.specs.Figures.{Five, five, figures, checked}
+use Rattle.call.specs.Figures.{five, figures}
 use Rattle.call.specs.declared.figures.Figures.{Figures}
 use Rattle.call.specs.declared.call.Call.{Call}
 use Rattle.call.specs.declared.fault.JobFault.{JobFault}
@@ -19,7 +19,7 @@ use Rattle.job.specs.Reading.{says, said_unless, job_fault, reading, spelled, un
 use Rattle.job.proofs.BigEndian.{number_back, field_back}
 use Rattle.job.proofs.Records.{length_calls}
 use Rattle.job.proofs.Spelling.{record_back, spelled_back, part_take}
-use Rattle.job.proofs.Verdict.{Lays, figures_fit, read_so, lays_so}
+use Rattle.job.proofs.Verdict.{figures_fit, read_so, lays_so}
 
 -- the records of calls are 13 bytes each
 pub length_body : (cs : List Call) → length (flat_map record_bytes cs) ≡ 13 * length cs

@@ -1,6 +1,6 @@
 -- When a job is accepted, taken apart and put together: the verdict is a chain of tests, and it is none exactly where each
 -- of them passes. Assumes nothing.
-use Rattle.std.proofs.Common.{◌≡◌, ℕ, ◌+◌, ◌*◌, ◌^◌, ◌<◌, ◌≤◌, Bool, true, false, cond, ◌&&◌, eqb, ltb, leb, List, length, drop, Some, None, Ok, Err, Option, Result, sym, refl, ap, ◌∙◌, arith}
+use Rattle.std.proofs.Common.{◌≡◌, ℕ, ◌+◌, ◌*◌, ◌^◌, ◌<◌, ◌≤◌, Bool, true, false, cond, ◌&&◌, eqb, ltb, leb, List, length, drop, Some, None, Ok, Err, Option, Result, refl, ap, ◌∙◌, arith}
 use Rattle.std.proofs.lemmas.Bool.{eqb-true, leb-true, le-ltb, le-leb, eq-eqb, and_parts}
 use Rattle.call.specs.Figures.{Five, checked}
 use Rattle.call.specs.Rows.{passes_cores, passes_slots, passes_words, passes_strip, passes_allowance}
@@ -10,7 +10,7 @@ use Rattle.call.specs.declared.fault.FigureFault.TheVariants.{Cores, Slots, Word
 use Rattle.call.specs.declared.fault.JobFault.{JobFault}
 use Rattle.call.specs.declared.fault.JobFault.TheVariants as fault
 use Rattle.job.specs.Bytes.{field}
-use Rattle.job.specs.Reading.{Says, says, said_unless, unless, unless_figures, figures_fault, count_fault, records_fault, calls, job_figures, job_records, job_calls, job_fault, reading}
+use Rattle.job.specs.Reading.{Says, says, said_unless, unless, unless_figures, figures_fault, count_fault, records_fault, job_figures, job_records, job_calls, job_fault, reading}
 
 -- figures that pass pass each row
 passed : (b : Bool) (later : Result Five FigureFault) (e : FigureFault) (g : Five) → cond b later (Err e) ≡ Ok g → (b ≡ true) × (later ≡ Ok g)

@@ -6,7 +6,7 @@ use Rattle.call.specs.declared.figures.Figures.{Figures}
 use Rattle.call.specs.declared.call.Call.{Call}
 use Rattle.call.specs.declared.fault.JobFault.{JobFault}
 use Rattle.job.specs.Encoding.{encode}
-use Rattle.job.specs.Reading.{Says, says, calls}
+use Rattle.job.specs.Reading.{Says, calls}
 use Rattle.job.specs.declared.reader.Job.{Job}
 
 -- the figures by their numbers, or the fault

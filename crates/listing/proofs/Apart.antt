@@ -1,7 +1,7 @@
 -- A line can be read back: a run of digits ends at the first byte that is none, so its number, and after it the core, the
 -- verb by its first letter and the other numbers, are found again. Lines that can be read back are apart.
 -- Assumes nothing.
-use Rattle.std.proofs.Common.{◌≡◌, ℕ, ◌^◌, ◌<◌, Bool, true, false, cond, eqb, ltb, List, [], ◌∷◌, ◌++◌, get_or, drop, codes, decimal, sym, refl, ap, ◌∙◌, arith}
+use Rattle.std.proofs.Common.{◌≡◌, ℕ, ◌^◌, ◌<◌, Bool, false, cond, eqb, ltb, List, [], ◌∷◌, ◌++◌, get_or, drop, decimal, sym, refl, ap, ◌∙◌, arith}
 use Rattle.std.proofs.lemmas.Fmt.{decimal_is_IsNumeral}
 use Rattle.std.proofs.lemmas.Bool.{lt-ltb}
 use Rattle.std.specs.Str.Parse.{digits_value, AllDigits}
@@ -10,7 +10,7 @@ use Rattle.call.specs.declared.call.Call.{Call}
 use Rattle.call.specs.declared.call.Call.TheVariants as call
 use Rattle.job.specs.Encoding.{LawfulCall}
 use Rattle.listing.specs.Laws.{LinesApart}
-use Rattle.listing.specs.Lines.{call_line, core_line, newline, plan_text}
+use Rattle.listing.specs.Lines.{call_line, core_line}
 
 abbrev is_digit : ℕ → Bool
 is_digit b = ltb (digit_value b) 10

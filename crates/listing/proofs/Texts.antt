@@ -1,5 +1,5 @@
 -- Going through the calls of a job: the first of the calls that are left has the next line. Assumes nothing.
-use Rattle.std.proofs.Common.{◌≡◌, ℕ, suc, ◌+◌, List, [], ◌∷◌, ◌++◌, length, drop, Some, None, Option, sym, refl, ap, ◌∙◌, append_assoc, arith}
+use Rattle.std.proofs.Common.{◌≡◌, ℕ, suc, ◌+◌, List, [], ◌∷◌, ◌++◌, length, drop, Some, None, sym, refl, ap, ◌∙◌, append_assoc, arith}
 use Rattle.call.specs.declared.call.Call.{Call}
 use Rattle.job.specs.Jobs.{first}
 use Rattle.listing.specs.Lines.{call_line, call_lines}

@@ -1,13 +1,13 @@
 -- What acquire and release make of the table of locks and the table of cores keeps the two tied. A release is two changes
 -- at its lock: the core puts the lock down, and the first in the queue, if there is one, takes it up. Assumes nothing.
-use Rattle.std.proofs.Common.{◌≡◌, ℕ, ◌<◌, ◌≤◌, Bool, true, false, eqb, ◌⊎◌, List, [], ◌∷◌, map, length, get_or, set, IfSome, Some, None, Option, sym, refl, ap, ◌∙◌, subst, inl, inr, ⊎_elim, arith}
+use Rattle.std.proofs.Common.{◌≡◌, ℕ, ◌<◌, true, ◌⊎◌, List, [], ◌∷◌, map, length, get_or, set, IfSome, Some, None, Option, sym, refl, ap, ◌∙◌, inl, inr, ⊎_elim, arith}
 use Rattle.std.proofs.lemmas.List.{length-set}
 use Rattle.std.proofs.lemmas.Bool.{cases_lt, eqb-true, false≢true}
 use Rattle.rules.proofs.Tables.{upd_cases}
 use Rattle.rules.specs.Refusals.{holds}
 use Rattle.rules.specs.State.{Lock}
 use Rattle.rules.specs.Steps.{acquired_by, released_to}
-use Rattle.rules.specs.Tables.{upd, is}
+use Rattle.rules.specs.Tables.{upd}
 use Rattle.locks.specs.Rows.{lock_of, granted, passed_to}
 use Rattle.locks.specs.Ties.{holder_of, attending, handed}
 use Rattle.locks.specs.Views.{locks_of, does}

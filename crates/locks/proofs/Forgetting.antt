@@ -1,5 +1,5 @@
 -- Locks whose last releasers are forgotten keep their holders and queues, and so stay tied to the cores. Assumes nothing.
-use Rattle.std.proofs.Common.{◌≡◌, ℕ, zero, suc, ◌+◌, ◌<◌, ◌≤◌, Bool, List, [], ◌∷◌, ◌++◌, map, length, get_or, take, drop, set, sym, refl, ap, ◌∙◌, arith}
+use Rattle.std.proofs.Common.{◌≡◌, ℕ, zero, suc, ◌+◌, ◌<◌, ◌≤◌, List, [], ◌∷◌, ◌++◌, map, length, get_or, take, drop, set, sym, refl, ap, ◌∙◌, arith}
 use Rattle.std.proofs.lemmas.List.Edits.{map_over_more}
 use Rattle.std.proofs.lemmas.List.{length-map, get_or-map, take_all, drop_all, append-nil}
 use Rattle.rules.specs.State.{Lock, free}
@@ -8,7 +8,7 @@ use Rattle.locks.specs.Rows.{lock_of}
 use Rattle.locks.specs.Views.{does}
 use Rattle.locks.specs.declared.row.Row.{Row}
 use Rattle.locks.specs.declared.table.Locks.{Locks}
-use Rattle.locks.proofs.Tables.{kept, kept_row, set_row}
+use Rattle.locks.proofs.Tables.{kept, set_row}
 use Rattle.locks.proofs.Ties.{QueuesTied, HoldersTied, queue_count, is_holder}
 
 get_or_forgetting : (ls : List Lock) (l : ℕ) → get_or (map forgetting ls) l free ≡ forgetting (get_or ls l free)

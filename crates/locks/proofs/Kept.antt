@@ -1,10 +1,9 @@
 -- The locks that are kept: what is asked of them is told by what the core does, since the two are tied. Assumes nothing.
-use Rattle.std.proofs.Common.{◌≡◌, ℕ, ◌<◌, ◌≤◌, true, false, map, length, is_some, Some, None, Option, sym, refl, ap, ◌∙◌, arith}
-use Rattle.std.proofs.lemmas.List.{get_or_past, length-map}
+use Rattle.std.proofs.Common.{◌≡◌, ℕ, ◌<◌, ◌≤◌, true, false, length, is_some, Some, None, Option, sym, refl, ◌∙◌, arith}
+use Rattle.std.proofs.lemmas.List.{get_or_past}
 use Rattle.std.proofs.lemmas.Bool.{false≢true}
 use Rattle.rules.specs.Refusals.{waits, holds_some}
 use Rattle.rules.specs.State.{free}
-use Rattle.locks.specs.Rows.{lock_of}
 use Rattle.locks.specs.Ties.{waiting, holding}
 use Rattle.locks.specs.Views.{locks_of, does}
 use Rattle.locks.specs.declared.attendance.Attendance.{Attendance}

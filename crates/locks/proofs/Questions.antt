@@ -1,13 +1,13 @@
 -- The questions that the rules ask by looking through the locks are told by what the core does: it waits just if it stands in
 -- the queue that it waits for, and holds just if it is the holder of the lock that it holds. Assumes nothing.
-use Rattle.std.proofs.Common.{◌≡◌, ℕ, ◌+◌, ◌<◌, ◌≤◌, Bool, true, false, cond, ◌||◌, eqb, ◌⊎◌, List, [], ◌∷◌, is_some, Some, None, Option, sym, refl, ap, ◌∙◌, inl, inr, ⊎_elim, arith}
+use Rattle.std.proofs.Common.{◌≡◌, ℕ, ◌<◌, ◌≤◌, Bool, true, false, cond, eqb, List, [], ◌∷◌, sym, refl, ap, ◌∙◌, ⊎_elim, arith}
 use Rattle.std.proofs.lemmas.Bool.{eq-eqb, ne_eqb, cases_lt, cases_eq, or_from, false≢true, or_left, or_right}
 use Rattle.std.proofs.lemmas.Bool.Decides.{nat_tests}
 use Rattle.rules.proofs.Members.{In, in_below}
-use Rattle.rules.specs.Refusals.{waits, holds_some, some_held}
+use Rattle.rules.specs.Refusals.{waits, holds_some}
 use Rattle.rules.specs.State.{Lock, free}
 use Rattle.rules.specs.Tables.{some_of, below, is}
-use Rattle.locks.specs.Ties.{occurs, waits_for, holder_of, waiting, holding}
+use Rattle.locks.specs.Ties.{occurs, holder_of, waiting, holding}
 use Rattle.locks.specs.declared.attendance.Attendance.{Attendance}
 use Rattle.locks.specs.declared.attendance.Attendance.TheVariants.{Away, Holds, Waits}
 use Rattle.locks.proofs.Ties.{QueuesTied, HoldersTied, wait_count, queue_count}

@@ -6,8 +6,7 @@ use Rattle.std.proofs.lemmas.Bool.{false≢true}
 use Rattle.rules.specs.State.{Lock}
 use Rattle.rules.specs.Steps.{acquired_by}
 use Rattle.locks.specs.Rows.{granted}
-use Rattle.locks.specs.declared.grant.Grant.{Grant}
-use Rattle.locks.specs.declared.grant.Grant.TheVariants.{Granted, Queued}
+use Rattle.locks.specs.declared.grant.Grant.TheVariants.{Queued}
 
 -- a held lock: the core is queued last
 pub queued_answer : (holder : Option ℕ) (lock : Lock) → is_some holder ≡ true → Queued ≡ granted holder lock

@@ -1,6 +1,6 @@
 -- Tables kept as lists, read as functions of their index: a list changed at one place is the table changed at that place.
 -- Assumes nothing.
-use Rattle.std.proofs.Common.{◌≡◌, ℕ, ◌<◌, ◌≤◌, List, map, length, get_or, set, Option, sym, refl, ap, ◌∙◌, ⊎_elim}
+use Rattle.std.proofs.Common.{◌≡◌, ℕ, ◌<◌, ◌≤◌, List, map, length, get_or, set, Option, sym, ap, ◌∙◌, ⊎_elim}
 use Rattle.std.proofs.lemmas.List.{get_or-set_same, get_or-set_other, map-set, get_or-map, get_or_past, length-map, length-set}
 use Rattle.rules.proofs.Tables.{upd_cases}
 use Rattle.rules.specs.State.{Lock, free}

@@ -6,7 +6,7 @@ use Rattle.std.proofs.lemmas.Bool.{eq-eqb, ne_eqb, eqb-true, cases_eq}
 use Rattle.std.proofs.lemmas.Bool.Decides.{nat_tests}
 use Rattle.rules.proofs.Tables.{upd_cases}
 use Rattle.rules.specs.State.{Lock}
-use Rattle.rules.specs.Steps.{acquired_by, released_to}
+use Rattle.rules.specs.Steps.{acquired_by}
 use Rattle.rules.specs.Tables.{upd, is}
 use Rattle.locks.specs.Rows.{granted}
 use Rattle.locks.specs.Ties.{occurs, waits_for, holder_of, attending}

@@ -1,25 +1,25 @@
 -- The end of a phase goes through all entries, and what it leaves of each is what the rules leave of its copy. Registered
 -- entries stay, so every owner still holds its word. Assumes nothing.
-use Rattle.std.proofs.Common.{◌≡◌, ℕ, zero, suc, ◌+◌, ◌/◌, ◌%◌, ◌<◌, ◌≤◌, Bool, true, false, cond, not, ◌&&◌, eqb, ltb, List, [], ◌∷◌, ◌++◌, map, length, get_or, set, Option, sym, refl, ap, ◌∙◌, add-one, arith, below_more}
+use Rattle.std.proofs.Common.{◌≡◌, ℕ, zero, suc, ◌+◌, ◌<◌, ◌≤◌, Bool, true, false, cond, ◌&&◌, eqb, ltb, List, [], ◌∷◌, ◌++◌, map, length, get_or, set, Option, sym, refl, ap, ◌∙◌, add-one, arith, below_more}
 use Rattle.std.proofs.lemmas.List.{length-map, length-set, get_or-set_same, get_or-set_other, get_or_default, ext_get_or}
 use Rattle.word.specs.declared.word.Word.{Word}
 use Rattle.call.specs.Figures.{Five}
 use Rattle.rules.specs.Effects as effect
 use Rattle.rules.specs.Effects.{Place, places, tally, dropped, faded}
-use Rattle.rules.specs.State.{Copy, invalid, valid, registered, Memory}
+use Rattle.rules.specs.State.{invalid, valid, registered}
 use Rattle.memory.specs.Entries.{copy_in, copy_by, empty, turned, state_after, done_by, is_dropped}
 use Rattle.memory.specs.Modes.{goes, left_by, drops}
 use Rattle.memory.specs.Owners.{seat, is_registered, counts_for}
-use Rattle.memory.specs.Views.{copies_of, owners_of, memory_of}
+use Rattle.memory.specs.Views.{copies_of, memory_of}
 use Rattle.memory.specs.Walks.{place_at, within, walked}
 use Rattle.memory.specs.declared.entry.Entry.{Entry}
 use Rattle.memory.specs.declared.entry.Event.TheVariants.{Fade}
 use Rattle.memory.specs.declared.entry.State.{State}
 use Rattle.memory.specs.declared.entry.State.TheVariants.{Invalid, Valid, Registered}
-use Rattle.memory.proofs.Owned.{Sound, Kept, owned_kept}
+use Rattle.memory.proofs.Owned.{Sound, owned_kept}
 use Rattle.memory.proofs.Settles.{copy_at}
 use Rattle.memory.proofs.Views.{same_memory}
-use Rattle.memory.proofs.Walks.{walked_in, walked_past, walked_all, tally_more}
+use Rattle.memory.proofs.Walks.{walked_in, walked_past, tally_more}
 
 module _ (f : Five) (plan : ℕ) where
   -- what is left of an entry is what is left of its copy

@@ -1,13 +1,12 @@
 -- A load on the lists is the rules' load: after the write back the word comes from its owner's registered entry, or from the
 -- page, and fills the slot. Assumes nothing.
-use Rattle.std.proofs.Common.{◌≡◌, ℕ, ◌<◌, Bool, true, false, cond, ◌&&◌, eqb, ltb, List, length, get_or, set, Some, None, Option, sym, refl, ap, ◌∙◌, arith}
+use Rattle.std.proofs.Common.{◌≡◌, ℕ, ◌<◌, true, false, eqb, ltb, List, length, get_or, set, Some, None, Option, sym, refl, ap, ◌∙◌, arith}
 use Rattle.std.proofs.lemmas.List.{get_or-set_same}
 use Rattle.std.proofs.lemmas.Bool.{and_parts, eqb-true, eq-eqb, cond-true}
 use Rattle.word.specs.declared.word.Word.{Word}
 use Rattle.call.specs.Figures.{Five, slot_of}
 use Rattle.rules.specs.Effects.{Got, write_back, fetch, fetch_by, fetch_into, filled, word_in, with_copy}
 use Rattle.rules.specs.State.{Copy, invalid, valid, registered, Memory, of_word, copy_of, page_word}
-use Rattle.word.specs.Words.{blank_word}
 use Rattle.memory.specs.Entries.{copy_in, copy_by, empty, turned, state_after}
 use Rattle.memory.specs.Owners.{seat, is_registered, counts_for, holds}
 use Rattle.memory.specs.Views.{copies_of, owners_of, memory_of, word_by, source_by}
@@ -15,7 +14,7 @@ use Rattle.memory.specs.declared.entry.Entry.{Entry}
 use Rattle.memory.specs.declared.entry.Event.TheVariants.{Settle}
 use Rattle.memory.specs.declared.entry.State.{State}
 use Rattle.memory.specs.declared.entry.State.TheVariants.{Invalid, Valid, Registered}
-use Rattle.memory.proofs.Owned.{Sound, Owned}
+use Rattle.memory.proofs.Owned.{Owned}
 use Rattle.memory.proofs.Views.{copies_at, copies_set, same_memory}
 
 -- no registered copy is left where one was settled

@@ -1,11 +1,11 @@
 -- Tables that are just made hold nothing, and the count of owned words goes word by word. Assumes nothing.
-use Rattle.std.proofs.Common.{◌≡◌, ℕ, zero, suc, ◌+◌, ◌<◌, ◌≤◌, Bool, true, false, cond, ltb, List, [], ◌∷◌, ◌++◌, length, get_or, replicate, is_some, Some, None, Option, sym, refl, ap, ◌∙◌, add-one, arith}
+use Rattle.std.proofs.Common.{◌≡◌, ℕ, zero, suc, ◌+◌, ◌≤◌, Bool, true, false, cond, ltb, List, [], ◌∷◌, ◌++◌, length, get_or, replicate, is_some, None, Option, sym, refl, ap, ◌∙◌, add-one, arith}
 use lib.ListN.{length-replicate}
 use Rattle.std.proofs.lemmas.List.{get_or_past}
 use Rattle.word.specs.declared.word.Word.{Word}
 use Rattle.call.specs.Figures.{Five}
 use Rattle.rules.specs.Questions.{owned_among}
-use Rattle.rules.specs.State.{Copy, invalid, Memory, empty_caches}
+use Rattle.rules.specs.State.{invalid, Memory, empty_caches}
 use Rattle.rules.specs.Tables.{below}
 use Rattle.memory.specs.Entries.{copy_in, empty}
 use Rattle.memory.specs.Owners.{seat, holds}

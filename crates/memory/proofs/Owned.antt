@@ -1,9 +1,9 @@
 -- An owner's entry holds its word, registered. That stays so where every entry that counts for a word still counts for it, but
 -- for the one word whose owner is set anew; a turn of the table by which an entry counts no more takes the owner from the word.
 -- Assumes nothing.
-use Rattle.std.proofs.Common.{◌≡◌, ℕ, ◌<◌, Bool, true, false, ◌&&◌, eqb, ltb, ◌≢◌, List, length, get_or, set, Some, None, Option, sym, refl, ap, ◌∙◌, ⊎_elim, arith}
+use Rattle.std.proofs.Common.{◌≡◌, ℕ, ◌<◌, true, false, ◌&&◌, eqb, ltb, ◌≢◌, List, length, get_or, set, Some, None, Option, sym, refl, ap, ◌∙◌, ⊎_elim, arith}
 use Rattle.std.proofs.lemmas.List.{get_or-set_same, get_or-set_other, length-set}
-use Rattle.std.proofs.lemmas.Bool.{and_parts, and_from, cases_eq, eqb-true, both_ways, lt-ltb, ltb-true}
+use Rattle.std.proofs.lemmas.Bool.{and_parts, and_from, cases_eq, eqb-true, both_ways, ltb-true}
 use Rattle.call.specs.Figures.{Five, slot_of}
 use Rattle.memory.specs.Entries.{empty, turned, state_after, done_by}
 use Rattle.memory.specs.Owners.{seat, is_registered, counts_for, holds}

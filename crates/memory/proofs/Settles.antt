@@ -1,15 +1,15 @@
 -- Settle goes through the places in turn. What is still to come stands as it stood at the start, so that what is counted at
 -- each step is what the rules count. Assumes nothing.
-use Rattle.std.proofs.Common.{◌≡◌, ℕ, suc, ◌+◌, ◌*◌, ◌/◌, ◌%◌, ◌<◌, ◌≤◌, Bool, true, false, cond, ◌&&◌, List, [], ◌∷◌, ◌++◌, length, get_or, fold, Option, sym, refl, ap, ◌∙◌, add-one, arith}
+use Rattle.std.proofs.Common.{◌≡◌, ℕ, suc, ◌+◌, ◌/◌, ◌%◌, ◌<◌, ◌≤◌, Bool, true, false, cond, ◌&&◌, List, [], ◌∷◌, ◌++◌, get_or, fold, Option, sym, refl, ap, ◌∙◌, add-one, arith}
 use Rattle.std.proofs.lemmas.Nat.{div-add-mod', mod_below}
 use Rattle.std.proofs.lemmas.List.Sums.{fold_push}
 use Rattle.word.specs.declared.word.Word.{Word}
 use Rattle.call.specs.Figures.{Five}
 use Rattle.rules.specs.Effects as effect
 use Rattle.rules.specs.Effects.{Place, places, tally, write_back}
-use Rattle.rules.specs.State.{Copy, Memory}
+use Rattle.rules.specs.State.{Memory}
 use Rattle.memory.specs.Entries.{copy_in, copy_by, empty}
-use Rattle.memory.specs.Owners.{seat, is_registered}
+use Rattle.memory.specs.Owners.{is_registered}
 use Rattle.memory.specs.Views.{copies_of, memory_of}
 use Rattle.memory.specs.Walks.{place_at, within, walked}
 use Rattle.memory.specs.declared.entry.Entry.{Entry}

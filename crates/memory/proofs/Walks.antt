@@ -1,9 +1,8 @@
 -- The walk through all 512 entries passes the slots of all cores in the order of the rules: row by row, and in each row slot by
 -- slot; what lies past a row's slots or past the last core is skipped. Assumes nothing.
-use Rattle.std.proofs.Common.{◌≡◌, ℕ, zero, suc, ◌+◌, ◌-◌, ◌*◌, ◌/◌, ◌%◌, ◌<◌, ◌≤◌, Bool, true, false, cond, ◌&&◌, ltb, List, [], ◌∷◌, ◌++◌, map, fold, sym, refl, ap, ◌∙◌, ⊎_elim, add-zero, add-suc, arith}
+use Rattle.std.proofs.Common.{◌≡◌, ℕ, zero, suc, ◌+◌, ◌-◌, ◌*◌, ◌/◌, ◌%◌, ◌<◌, ◌≤◌, Bool, true, false, cond, ltb, List, [], ◌∷◌, ◌++◌, map, sym, refl, ap, ◌∙◌, ⊎_elim, add-zero, add-suc, arith}
 use Rattle.std.proofs.lemmas.Nat.{div-mul-add, mod-mul-add, le-div}
 use Rattle.std.proofs.lemmas.List.{append-nil, append_assoc, map-append, flat_map_more}
-use Rattle.std.proofs.lemmas.List.Sums.{fold_push}
 use Rattle.std.proofs.lemmas.Bool.{lt-ltb, le-ltb, and_from, and_left, and_right, cases_eq, cond-false, cond-true}
 use Rattle.std.specs.List.{flat_map}
 use Rattle.call.specs.Figures.{Five}

@@ -1,13 +1,12 @@
 -- What a bank's read and write answer and leave, by the lemmas on its slots: a read shows the slot's word or goes
 -- through, a write replaces one word, and outside nothing changes. Assumes nothing.
-use Rattle.std.proofs.Common.{◌≡◌, ℕ, ◌%◌, ◌<◌, ◌≤◌, true, false, cond, eqb, ltb, List, length, get_or, set, Some, None, Ok, Err, Option, Result, unwrap_or, sym, refl, ap, ◌∙◌, ⊎_elim, arith}
+use Rattle.std.proofs.Common.{◌≡◌, ℕ, ◌%◌, ◌<◌, ◌≤◌, true, List, length, get_or, set, Some, None, Ok, Err, Option, Result, unwrap_or, sym, refl, ap, ◌∙◌, arith}
 use Rattle.std.proofs.lemmas.List.{set_past}
-use Rattle.std.proofs.lemmas.Bool.{cases_lt, cond-true, cond_below, cond_above, eq-eqb}
+use Rattle.std.proofs.lemmas.Bool.{cond_below, cond_above}
 use Rattle.word.specs.declared.word.Word.{Word}
 use Rattle.page.specs.Pages.{outside, read_answer, write_answer}
 use Rattle.word.specs.Words.{blank_word}
 use Rattle.page.specs.Slots.{Slot, slot_for, in_slot, changed, shown, laid, made_way, slots_after, below_after}
-use Rattle.page.specs.declared.change.Change.{Change}
 use Rattle.page.specs.declared.outside.Outside.{Outside}
 use Rattle.page.proofs.Slots.{length_laid, laid_at, filled}
 

@@ -1,7 +1,7 @@
 -- A drain goes through the slots: each step writes one slot's word below and empties the slot, which keeps what the
 -- bank means, and slots that are all empty are the slots of a fresh bank, which means the list below.
 -- Assumes nothing.
-use Rattle.std.proofs.Common.{◌≡◌, ℕ, ◌+◌, ◌<◌, true, List, length, get_or, set, replicate, None, sym, refl, ap, ◌∙◌, arith, below_more}
+use Rattle.std.proofs.Common.{◌≡◌, ℕ, ◌+◌, ◌<◌, true, List, length, get_or, set, replicate, None, sym, ap, ◌∙◌, arith, below_more}
 use Rattle.std.proofs.lemmas.List.{ext_get_or, get_or-set_same, get_or-set_other, get_or-replicate, length-replicate}
 use Rattle.word.specs.declared.word.Word.{Word}
 use Rattle.page.specs.Slots.{Slot, in_slot, laid, flushed}

@@ -1,12 +1,11 @@
 -- The words that bytes spell, place by place: word k is that of the 8 bytes from 8 k on. A write of 8 bytes there gives
 -- word k, and since groups do not overlap, every other word keeps its bytes. Assumes nothing.
-use Rattle.std.proofs.Common.{◌≡◌, ℕ, ◌+◌, ◌-◌, ◌*◌, ◌/◌, ◌^◌, ◌<◌, ◌≤◌, min, cond, ltb, ◌≢◌, List, ◌++◌, map, length, get_or, take, drop, set, Ok, Err, Result, sym, refl, ap, ◌∙◌, ⊎_elim, arith}
+use Rattle.std.proofs.Common.{◌≡◌, ℕ, ◌+◌, ◌*◌, ◌/◌, ◌^◌, ◌<◌, ◌≤◌, min, ◌≢◌, List, ◌++◌, length, get_or, take, drop, set, Ok, Err, Result, sym, refl, ap, ◌∙◌, ⊎_elim, arith}
 use borrow.Rule.Slice.PartMut.{put_mid}
 use Rattle.std.proofs.lemmas.List.{drop-drop, drop_at, drop-take, take_at, length-append, length-take, length-take-le, length-drop, length-set, ext_get_or, get_or-set_same, get_or-set_other, set_past}
 use Rattle.std.proofs.lemmas.Slice.{take-put_mid_below, drop-put_mid}
 use Rattle.std.proofs.lemmas.List.FromFn.{length-map-range_with_len, get_or-map-range_with_len}
 use Rattle.std.proofs.lemmas.Bool.{cond_below, cond_above, cases_lt, cases_order}
-use Rattle.std.specs.List.{range_with_len}
 use Rattle.word.specs.declared.word.Word.{Word}
 use Rattle.page.specs.ByteWords.{group_at, byte_size, byte_words, bytes_after}
 use Rattle.page.specs.Groups.{group_bytes, group_word}

@@ -1,6 +1,6 @@
 -- A word is read back from the group that spells it: four bytes make up the number that they were taken from, and a
 -- lawful number, which is below 2 ^ 32, reads as its mark. Assumes nothing.
-use Rattle.std.proofs.Common.{◌≡◌, ℕ, ◌+◌, ◌*◌, ◌/◌, ◌%◌, ◌^◌, ◌<◌, List, length, refl, ap, ◌∙◌, ⊎_elim, mod-eq_of_lt, div-add-mod', arith}
+use Rattle.std.proofs.Common.{◌≡◌, ℕ, ◌/◌, ◌^◌, ◌<◌, List, length, refl, ap, ◌∙◌, ⊎_elim, mod-eq_of_lt, div-add-mod', arith}
 use native.Mathlib.Nat.{div-div-eq-div-mul}
 use Rattle.word.proofs.Marks.{lawful_tells}
 use Rattle.word.specs.Marks.{number, mark_at}

@@ -1,6 +1,6 @@
 -- A mark is its number, so the mark of number 0 is the blank one, and a number reads as the one mark that has it.
 -- Assumes nothing.
-use Rattle.std.proofs.Common.{◌≡◌, ℕ, Bool, true, false, cond, Some, None, Option, sym, refl, ◌∙◌, arith}
+use Rattle.std.proofs.Common.{◌≡◌, ℕ, Bool, true, false, cond, Some, None, sym, refl, ◌∙◌, arith}
 use Rattle.word.proofs.Marks.{same_mark}
 use Rattle.word.specs.Lawful.{lawful}
 use Rattle.word.specs.Marks.{number, mark_by, mark_at}

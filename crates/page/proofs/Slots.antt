@@ -2,14 +2,13 @@
 -- slot holds only places that lie in it, a change of one slot or a write below of its word touches no place of another.
 -- So writing a slot's word below and emptying the slot keeps the meaning, and filling it replaces one word.
 -- Assumes nothing.
-use Rattle.std.proofs.Common.{◌≡◌, ℕ, ◌+◌, ◌%◌, ◌<◌, ◌≤◌, Bool, true, false, cond, eqb, ltb, ◌≢◌, List, map, length, get_or, set, replicate, Some, None, Option, unwrap_or, sym, refl, ap, ◌∙◌, ⊎_elim, mod-lt, arith}
+use Rattle.std.proofs.Common.{◌≡◌, ℕ, ◌%◌, ◌<◌, ◌≤◌, true, eqb, ◌≢◌, List, length, get_or, set, replicate, Some, None, Option, unwrap_or, sym, refl, ap, ◌∙◌, ⊎_elim, mod-lt, arith}
 use Rattle.std.proofs.lemmas.List.FromFn.{length-map-range_with_len, get_or-map-range_with_len}
-use Rattle.std.proofs.lemmas.List.{ext_get_or, length-set, get_or-set_same, get_or-set_other, get_or-replicate, get_or_past, length-replicate, set_past}
-use Rattle.std.proofs.lemmas.Bool.{cases_eq, cases_lt, cond_both, cond-true, cond-false, cond_below, cond_above, eq-eqb, ne_eqb, eqb-true}
-use Rattle.std.specs.List.{range_with_len}
+use Rattle.std.proofs.lemmas.List.{ext_get_or, length-set, get_or-set_same, get_or-set_other, get_or-replicate, get_or_past, length-replicate}
+use Rattle.std.proofs.lemmas.Bool.{cases_eq, cases_lt, cond_both, cond-true, cond-false, eq-eqb, ne_eqb, eqb-true}
 use Rattle.word.specs.declared.word.Word.{Word}
 use Rattle.word.specs.Words.{blank_word}
-use Rattle.page.specs.Slots.{Slot, slot_for, in_slot, changed, shown, flushed, laid, slots_after, made_way, below_after}
+use Rattle.page.specs.Slots.{Slot, slot_for, in_slot, shown, flushed, laid, made_way}
 use Rattle.page.specs.declared.change.Change.{Change}
 
 -- a bank has as many words as the list below

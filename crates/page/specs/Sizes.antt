@@ -4,7 +4,7 @@ use Rattle.std.specs.Prelude.{◌≡◌, ℕ, ◌≤◌, List, length}
 use Rattle.std.proofs.Common.{arith}
 use Rattle.std.proofs.lemmas.List.FromFn.{length-map-range_with_len}
 use Rattle.word.specs.declared.word.Word.{Word}
-use Rattle.page.specs.ByteWords.{byte_size, byte_words}
+use Rattle.page.specs.ByteWords.{byte_words}
 use Rattle.page.specs.Slots.{Slot, laid}
 
 -- a list of a known length has at most that many elements

@@ -6,7 +6,7 @@ use Rattle.call.specs.declared.call.Call.{Call}
 use Rattle.call.specs.declared.fault.JobFault.{JobFault}
 use Rattle.call.specs.declared.fault.JobFault.TheVariants.{Table}
 use Rattle.job.specs.Jobs.{figures_read, calls_read}
-use Rattle.job.specs.Reading.{Says, says}
+use Rattle.job.specs.Reading.{Says}
 use Rattle.play.specs.Playing.{with_room, checked_with}
 
 -- a job whose check passes says its figures and its calls, and the table has room

@@ -1,7 +1,6 @@
 -- A memory without this phase's stamps remembers nothing. Assumes nothing.
-use Rattle.std.proofs.Common.{◌≡◌, ℕ, zero, suc, ◌<◌, ◌≤◌, Bool, true, false, cond, eqb, leb, List, [], get_or, replicate, sym, refl, ap, ◌∙◌, arith}
+use Rattle.std.proofs.Common.{◌≡◌, ℕ, zero, suc, ◌<◌, true, false, eqb, leb, List, [], replicate, refl, ap, ◌∙◌, arith}
 use Rattle.std.proofs.lemmas.Bool.{ne_eqb, cond-false, le-leb}
-use Rattle.call.specs.declared.refusal.Access.{Access}
 use Rattle.races.specs.Pairs.{nobody, other_than}
 use Rattle.races.specs.Remembered.{pair_of, Tells}
 use Rattle.races.specs.Stamps.{unseen, seen_at, up_to}

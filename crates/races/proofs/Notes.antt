@@ -1,6 +1,6 @@
 -- One more access: the pair of its word and kind takes the core in, every other pair stays, and both tell the earliest access by
 -- another core as the longer list has it. Assumes nothing.
-use Rattle.std.proofs.Common.{◌≡◌, ℕ, ◌<◌, ◌≤◌, Bool, true, false, cond, not, ◌&&◌, eqb, leb, List, [], ◌∷◌, ◌++◌, length, get_or, set, Some, None, Option, sym, refl, ap, ◌∙◌, subst, ⊎_elim, arith}
+use Rattle.std.proofs.Common.{◌≡◌, ℕ, ◌<◌, ◌≤◌, Bool, true, false, cond, not, ◌&&◌, eqb, leb, List, [], ◌∷◌, ◌++◌, length, set, Some, None, Option, sym, refl, ap, ◌∙◌, subst, ⊎_elim, arith}
 use Rattle.std.proofs.lemmas.Bool.{eqb-true, eqb-false, eq-eqb, ne_eqb, and_left, and_right, cases_eq, cases_lt, le-leb, cond-true}
 use Rattle.std.proofs.lemmas.List.{get_or-set_same, get_or-set_other, set_past}
 use Rattle.call.specs.declared.refusal.Access.{Access}
@@ -9,7 +9,7 @@ use Rattle.rules.specs.Refusals.{same_access, by_another, earliest}
 use Rattle.rules.specs.State.{Accessed}
 use Rattle.races.specs.Pairs.{nobody, pair, noted, other_than, noted_by, other_by, second_by}
 use Rattle.races.specs.Remembered.{pair_of, remembered_in, noted_in, Tells, current}
-use Rattle.races.specs.Stamps.{unseen, seen_at, up_to}
+use Rattle.races.specs.Stamps.{unseen, up_to}
 use Rattle.races.specs.declared.pair.Pair.{Pair}
 use Rattle.races.specs.declared.seen.Seen.{Seen}
 

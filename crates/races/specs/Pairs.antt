@@ -1,6 +1,6 @@
 -- The first core that made an access, and the first other than it: all that is needed to name the earliest access by a core
 -- other than any given one. Assumes nothing.
-use Rattle.std.specs.Prelude.{ℕ, cond, List, [], ◌∷◌, Some, None, Option, ◌==◌}
+use Rattle.std.specs.Prelude.{ℕ, cond, Some, None, Option, ◌==◌}
 use Rattle.races.specs.declared.pair.Pair.{Pair}
 
 abbrev pub pair : Option ℕ → Option ℕ → Pair

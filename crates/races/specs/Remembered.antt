@@ -1,9 +1,9 @@
 -- What the memory means: of each word the first loaders and the first storers of this phase; and that this tells, for every core,
 -- the earliest access by another core in a list of accesses. Assumes nothing.
-use Rattle.std.specs.Prelude.{◌≡◌, ℕ, ◌<◌, Bool, cond, ◌&&◌, List, ◌==◌}
+use Rattle.std.specs.Prelude.{◌≡◌, ℕ, ◌<◌, cond, List, ◌==◌}
 use Rattle.call.specs.declared.refusal.Access.{Access}
 use Rattle.call.specs.declared.refusal.Access.TheVariants.{Load, Store}
-use Rattle.rules.specs.Refusals.{same_access, earliest}
+use Rattle.rules.specs.Refusals.{earliest}
 use Rattle.rules.specs.State.{Accessed}
 use Rattle.races.specs.Pairs.{nobody, noted, other_than}
 use Rattle.races.specs.Stamps.{seen_at}

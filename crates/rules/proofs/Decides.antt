@@ -1,29 +1,26 @@
 -- The order law: the last store before a load is carried over to the other run and back, so both loads give what the same
 -- store wrote; its count agrees since the core's own calls do. Assumes nothing.
-use Rattle.std.proofs.Common.{◌≡◌, ℕ, ◌+◌, ◌<◌, ◌≤◌, Bool, true, false, cond, not, eqb, ◌⊎◌, List, [], ◌∷◌, ◌++◌, Some, None, fold, Option, sym, refl, ap, ◌∙◌, subst, inl, inr, ⊎_elim, append_assoc, arith}
+use Rattle.std.proofs.Common.{◌≡◌, ℕ, ◌+◌, ◌<◌, Bool, true, false, cond, eqb, List, [], ◌∷◌, ◌++◌, Some, None, Option, sym, refl, ap, ◌∙◌, subst, ⊎_elim, append_assoc, arith}
 use Rattle.std.proofs.lemmas.List.{append_cancel_left}
 use Rattle.std.proofs.lemmas.Bool.{eqb-true, both_ways, cases_Bool, cond-true, eq-eqb}
-use Rattle.call.specs.declared.answer.Answer.{Answer}
-use Rattle.call.specs.declared.answer.Answer.TheVariants.{Loaded}
 use Rattle.call.specs.declared.call.Call.{Call}
 use Rattle.call.specs.declared.call.Call.TheVariants as call
 use Rattle.call.specs.declared.refusal.Refusal.{Refusal}
 use Rattle.word.specs.declared.word.Word.{Word}
-use Rattle.rules.specs.Effects as effect
-use Rattle.rules.specs.Histories.{refused_with, stored, store_of, Written, Wanted, writes, stores_to, ToldStore, Tracked, track_by, tracked, last_store, Fresh, loaded, given_by, load_of, LoadGiven, concerns, calls_of, ledger_of}
-use Rattle.rules.specs.Laws.{Alike, Unrefused, SameOrder, SameLoad, OrderDecides, old_word, size}
+use Rattle.rules.specs.Histories.{refused_with, stored, store_of, Written, Wanted, writes, stores_to, ToldStore, Tracked, track_by, tracked, last_store, Fresh, loaded, given_by, load_of, concerns, calls_of, ledger_of}
+use Rattle.rules.specs.Laws.{Unrefused, SameOrder, OrderDecides, old_word, size}
 use Rattle.rules.specs.Refusals.{refusal}
 use Rattle.rules.specs.Runs.{Event, History, Ran}
 use Rattle.rules.specs.State.{Setting, setting}
-use Rattle.rules.specs.Steps.{step, outcome, again}
+use Rattle.rules.specs.Steps.{step, outcome}
 use Rattle.rules.specs.Tables.{some_of}
-use Rattle.rules.proofs.Equal.{folded_append, fresh_same, later, track_on, After}
-use Rattle.rules.proofs.Fresh.{reached, no_stale, loaded_tells, step_refused}
+use Rattle.rules.proofs.Equal.{folded_append, fresh_same, later}
+use Rattle.rules.proofs.Fresh.{reached, no_stale, loaded_tells}
 use Rattle.rules.proofs.Order.{access_of, access_below, store_accesses, access_concerns, Twins, before_ok, keeps_order}
-use Rattle.rules.proofs.Own.{Found, found, own_stores, stores_own}
+use Rattle.rules.proofs.Own.{found, own_stores, stores_own}
 use Rattle.rules.proofs.Settled.{fresh_alike}
 use Rattle.rules.proofs.Splits.{Spot, Last, last_of, none_at, joined_append, tail_same}
-use Rattle.rules.proofs.Turns.{Legal, legal}
+use Rattle.rules.proofs.Turns.{legal}
 use Rattle.rules.proofs.Unrefused.{load_passes}
 use Rattle.rules.proofs.Opening.{fits}
 use Rattle.rules.proofs.Walking.{Reached, of_unrefused}

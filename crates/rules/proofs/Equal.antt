@@ -9,10 +9,9 @@ use Rattle.word.specs.Lawful.{Stores, mark_of}
 use Rattle.word.specs.Marks.{number}
 use Rattle.word.specs.declared.word.Word.{Word}
 use Rattle.word.proofs.Marks.{same_mark, marks_apart}
-use Rattle.rules.specs.Histories.{accepted, stored, store_of, Written, writes, stores_to, ToldStore, Tracked, track_by, tracked, last_store, Fresh, loaded, LoadGiven}
+use Rattle.rules.specs.Histories.{accepted, stored, store_of, Written, writes, stores_to, ToldStore, Tracked, track_by, tracked, last_store, Fresh}
 use Rattle.rules.specs.Laws.{EqualLoads, old_word}
-use Rattle.rules.specs.Runs.{Event, History, Ran}
-use Rattle.rules.specs.State.{setting, unmarked}
+use Rattle.rules.specs.Runs.{History, Ran}
 use Rattle.rules.specs.Tables.{upd, some_of}
 use Rattle.rules.proofs.Fresh.{reached, no_stale, loaded_tells}
 use Rattle.rules.proofs.Tables.{upd_cases}

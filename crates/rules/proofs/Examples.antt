@@ -1,11 +1,11 @@
 -- The ten cases, the sample job and the worked runs, each by computation. Assumes nothing.
-use Rattle.std.proofs.Common.{◌≡◌, ℕ, zero, suc, ◌+◌, ◌<◌, Bool, true, false, not, ◌&&◌, List, [], ◌∷◌, ◌++◌, sym, refl, ap, ◌∙◌, subst, arith}
+use Rattle.std.proofs.Common.{◌≡◌, ℕ, zero, suc, ◌<◌, Bool, true, ◌&&◌, [], ◌∷◌, ◌++◌, sym, refl, ap, ◌∙◌, subst, arith}
 use Rattle.std.proofs.lemmas.Bool.{and_parts}
 use Rattle.sets.proofs.Sentences.{bits_puts, takes_in, clears, words_take_in, words_clear}
 use Rattle.sets.specs.Rows.{bits_put, rows_taken_in, rows_cleared}
 use Rattle.rules.specs.Histories.{accepted, calls_of, order_of_holders}
 use Rattle.rules.specs.Laws.{Unrefused}
-use Rattle.rules.specs.Runs.{Lawful, Event, History, Ran, history_of}
+use Rattle.rules.specs.Runs.{Lawful, Event, History, history_of}
 use Rattle.rules.specs.Signed.{bloom, played, no_bits, zero_page}
 use Rattle.rules.proofs.Instance.{ran_of}
 use Rattle.sets.specs.Fills.{bits_from}

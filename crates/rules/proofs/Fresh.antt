@@ -1,7 +1,7 @@
 -- The laws of one run: refusals are told by history, no load is stale, and two loads are equal exactly when no store came
 -- between. The first two are read off the moment before the call. For the third, marks of different stores differ: of two
 -- stores of one core the later has the greater count. Assumes nothing.
-use Rattle.std.proofs.Common.{◌≡◌, ℕ, ◌+◌, ◌<◌, ◌≤◌, Bool, true, false, cond, not, ◌||◌, eqb, ◌⊎◌, List, [], ◌∷◌, ◌++◌, get_or, is_some, Some, None, Option, sym, refl, ap, ◌∙◌, subst, inl, inr, ⊎_elim, append_assoc, arith}
+use Rattle.std.proofs.Common.{◌≡◌, ℕ, ◌<◌, [], ◌∷◌, ◌++◌, Some, None, Option, sym, refl, ap, ◌∙◌, subst, arith}
 use Rattle.call.specs.declared.answer.Answer.{Answer}
 use Rattle.call.specs.declared.answer.Answer.TheVariants.{Loaded, Stored, Done, Refused}
 use Rattle.call.specs.declared.call.Call.{Call}
@@ -10,13 +10,12 @@ use Rattle.call.specs.declared.refusal.Refusal.{Refusal}
 use Rattle.sets.specs.Sentences.{Sets}
 use Rattle.word.specs.declared.word.Word.{Word}
 use Rattle.rules.specs.Effects as effect
-use Rattle.rules.specs.Histories.{loaded, load_of, given_by, LoadGiven, Wanted, refused_with, last_store, Fresh, ledger_of}
-use Rattle.rules.specs.Laws.{NoStale, RefusalsTold, old_word, size}
+use Rattle.rules.specs.Histories.{loaded, load_of, given_by, LoadGiven, Wanted, refused_with, last_store, Fresh}
+use Rattle.rules.specs.Laws.{NoStale, RefusalsTold, old_word}
 use Rattle.rules.specs.Refusals.{refusal}
 use Rattle.rules.specs.Runs.{Event, History, Chain, Ran}
 use Rattle.rules.specs.State.{Ledger, State, Setting, setting, opening}
-use Rattle.word.specs.Words.{blank_word}
-use Rattle.rules.specs.Steps.{step, outcome, answered, again}
+use Rattle.rules.specs.Steps.{step, outcome, again}
 use Rattle.rules.proofs.Invariant.{Fits, load_is_fresh}
 use Rattle.rules.proofs.Opening.{fits, opening_moment}
 use Rattle.rules.proofs.Unrefused.{load_passes}

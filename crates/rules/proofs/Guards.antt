@@ -1,13 +1,13 @@
 -- The guard of a lock is its holder or, of a free lock, its last releaser. Whatever was stored under a lock in this phase is
 -- in the set of its guard: a store puts it there, and the next guard takes it in. Sets only grow within a phase.
 -- Assumes nothing.
-use Rattle.std.proofs.Common.{◌≡◌, ℕ, ◌<◌, Bool, true, false, ◌⊎◌, List, [], ◌∷◌, ◌++◌, Some, None, Option, sym, refl, ap, ◌∙◌, inl, inr, ⊎_elim, arith}
+use Rattle.std.proofs.Common.{◌≡◌, ℕ, ◌<◌, true, List, [], ◌∷◌, Some, None, Option, sym, refl, ap, ◌∙◌, inl, ⊎_elim, arith}
 use Rattle.std.proofs.lemmas.Bool.{cases_eq}
 use Rattle.sets.specs.Sentences as signature
 use Rattle.sets.specs.Sentences.{Sets}
 use Rattle.rules.specs.State.{Lock}
-use Rattle.rules.specs.Steps.{Change, put, take_in, clear, Changed, Changes, acquired_by, released_to, takes_from, granted_changes, handed_changes}
-use Rattle.rules.proofs.Members.{In, in_left}
+use Rattle.rules.specs.Steps.{Changes, acquired_by, released_to, takes_from, granted_changes, handed_changes}
+use Rattle.rules.proofs.Members.{In}
 
 -- ── sets that grow ──
 

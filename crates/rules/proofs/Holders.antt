@@ -1,17 +1,13 @@
 -- Two runs with the same order of holders: where a core holds a lock at moments at which it has made the same calls, the same
 -- cores have released the lock before. Both runs' orders begin with the releasers so far and then the core, and the core
 -- stands equally often among the releasers, since its releases are among its own calls. Assumes nothing.
-use Rattle.std.proofs.Common.{◌≡◌, ℕ, zero, suc, ◌+◌, ◌-◌, ◌<◌, ◌≤◌, Bool, true, false, cond, not, ◌||◌, eqb, ◌⊎◌, List, [], ◌∷◌, ◌++◌, length, take, is_some, Some, None, Option, sym, refl, ap, ◌∙◌, subst, inl, inr, ⊎_elim, append_assoc, arith, length-append}
-use Rattle.std.proofs.lemmas.Bool.{eqb-true, eqb-false, cond-true, cond-false, eq-eqb, ne_eqb}
-use Rattle.call.specs.Calls.{caller_of}
-use Rattle.call.specs.declared.call.Call.{Call}
-use Rattle.call.specs.declared.call.Call.TheVariants as call
-use Rattle.rules.specs.Histories.{refused_with, released, release_of, plan_of, Asked, cores_for, acquirers, releasers, order_of_holders, concerns, calls_of, ledger_of}
-use Rattle.rules.specs.Runs.{Event, History}
+use Rattle.std.proofs.Common.{◌≡◌, ℕ, zero, suc, ◌+◌, ◌-◌, ◌<◌, ◌≤◌, cond, eqb, List, [], ◌∷◌, ◌++◌, length, take, Some, None, Option, refl, ap, ◌∙◌, append_assoc, arith, length-append}
+use Rattle.std.proofs.lemmas.Bool.{cond-true, eq-eqb}
+use Rattle.rules.specs.Histories.{acquirers, releasers, order_of_holders, ledger_of}
+use Rattle.rules.specs.Runs.{History}
 use Rattle.rules.specs.State.{Setting}
 use Rattle.rules.proofs.Splits.{Placed, earlier, same, later, two_splits, joined_append}
-use Rattle.rules.proofs.Turns.{Legal, Turn, turn, line}
-use Rattle.rules.proofs.Walking.{of_unrefused}
+use Rattle.rules.proofs.Turns.{Legal, turn, line}
 
 -- ── a list that begins with another ──
 

@@ -1,9 +1,8 @@
 -- A list of calls played with a signature's own operations is a run in the sense of the laws: the operations keep the
 -- sentences, so the sets that they leave are among those that are free. Assumes nothing.
-use Rattle.std.proofs.Common.{◌≡◌, ℕ, List, [], ◌∷◌, ◌++◌, Ok, refl}
+use Rattle.std.proofs.Common.{◌≡◌, List, [], ◌∷◌, Ok, refl}
 use Rattle.call.specs.Figures.{Five, checked}
 use Rattle.call.specs.declared.call.Call.{Call}
-use Rattle.sets.specs.Sentences.{Sets}
 use Rattle.word.specs.declared.word.Word.{Word}
 use Rattle.rules.specs.Laws.{RunLaws, LawfulRun}
 use Rattle.rules.specs.Runs.{Lawful, Chain, Ran, history_of, play, run}

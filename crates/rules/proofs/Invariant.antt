@@ -2,22 +2,22 @@
 -- stored in this phase: in a written strip by another core, so that a load of it is a race; in a locked strip the holder's
 -- set has the word, so that a load fetches it again; in a read_only strip nobody stores. A phase call drops every copy that
 -- could be stale. Assumes nothing.
-use Rattle.std.proofs.Common.{◌≡◌, ℕ, ◌<◌, ◌≤◌, Bool, true, false, cond, not, ◌&&◌, eqb, leb, ◌⊎◌, List, [], ◌∷◌, ◌++◌, length, Some, None, Option, sym, refl, ap, ◌∙◌, inl, inr, ⊎_elim, arith}
-use Rattle.std.proofs.lemmas.Bool.{eqb-true, leb-false, both_ways, not-false, and_from, not-true}
-use Rattle.call.specs.Figures.{Five, slot_of}
+use Rattle.std.proofs.Common.{◌≡◌, ℕ, ◌<◌, ◌≤◌, true, false, cond, List, [], ◌∷◌, length, Some, None, Option, sym, refl, ap, ◌∙◌, inl, inr, ⊎_elim, arith}
+use Rattle.std.proofs.lemmas.Bool.{eqb-true, both_ways, not-false, and_from}
+use Rattle.call.specs.Figures.{Five}
 use Rattle.call.specs.declared.call.Call.{Call}
 use Rattle.call.specs.declared.call.Call.TheVariants as call
 use Rattle.sets.specs.Sentences.{Sets}
 use Rattle.word.specs.declared.word.Word.{Word}
 use Rattle.rules.specs.Effects as effect
 use Rattle.rules.specs.Plans.{Mode, read_only, written, locked, mode_of, is_read_only, is_locked}
-use Rattle.rules.specs.Refusals.{refusal, holds, shut_out, load_race, store_race, earliest}
-use Rattle.rules.specs.State.{Copy, valid, Lock, Ledger, Memory, State, Setting}
-use Rattle.rules.specs.Steps.{put, entered, changes, Changes, clear_all, answered, next_mark, again, begun, with_lock, acquired_by, released_to}
+use Rattle.rules.specs.Refusals.{refusal, holds, shut_out, load_race}
+use Rattle.rules.specs.State.{Lock, Ledger, State, Setting}
+use Rattle.rules.specs.Steps.{put, entered, changes, Changes, answered, next_mark, again, begun, with_lock, acquired_by, released_to}
 use Rattle.rules.specs.Tables.{is, upd}
 use Rattle.rules.proofs.Accesses.{no_race, only_own, stored_in, stored_after_load, stored_before, stored_now, stored_after}
-use Rattle.rules.proofs.Guards.{Grow, Guarded, guard, guarded_grows, Cores, acquired_guarded, released_guarded, put_grows, same_grows, grow_on}
-use Rattle.rules.proofs.Members.{In, in_parts}
+use Rattle.rules.proofs.Guards.{Grow, Guarded, guarded_grows, Cores, acquired_guarded, released_guarded, put_grows, same_grows, grow_on}
+use Rattle.rules.proofs.Members.{in_parts}
 use Rattle.rules.proofs.Memories.{Sound, weakened}
 use Rattle.rules.proofs.Rows.{Loads, Keeps, load_loads, evict_keeps, store_keeps}
 use Rattle.rules.proofs.Settling.{settle_keeps, fade_keeps}

@@ -1,8 +1,8 @@
 -- Membership in a list, and that every slot of every core is among the places. Assumes nothing.
-use Rattle.std.proofs.Common.{◌≡◌, ℕ, zero, suc, ◌<◌, ◌≤◌, ◌⊎◌, List, [], ◌∷◌, ◌++◌, map, refl, ap, inl, inr, ⊎_elim, arith}
+use Rattle.std.proofs.Common.{◌≡◌, ℕ, zero, suc, ◌<◌, ◌⊎◌, List, [], ◌∷◌, ◌++◌, map, ap, inl, inr, ⊎_elim, arith}
 use Rattle.std.specs.List.{flat_map}
 use Rattle.call.specs.Figures.{Five}
-use Rattle.rules.specs.Effects.{Place, places}
+use Rattle.rules.specs.Effects.{places}
 use Rattle.rules.specs.Tables.{below}
 
 abbrev pub In : {X : Type 0} → X → List X → Type 0

@@ -1,7 +1,7 @@
 -- What every step keeps of page, caches and owners, over the words that the history says: an owner has the word registered
 -- as it is now, a word without an owner lies on the page as it is now, and a valid copy is as it is now or may be stale.
 -- Each small step keeps it. Assumes nothing.
-use Rattle.std.proofs.Common.{◌≡◌, ℕ, ◌<◌, Bool, true, false, cond, eqb, ◌⊎◌, length, get_or, set, Some, None, Option, sym, refl, ap, ◌∙◌, inl, inr, ⊎_elim, arith, length-set}
+use Rattle.std.proofs.Common.{◌≡◌, ℕ, ◌<◌, ◌⊎◌, length, get_or, set, Some, None, sym, refl, ap, ◌∙◌, inl, inr, ⊎_elim, arith, length-set}
 use Rattle.std.proofs.lemmas.List.{get_or-set_same, get_or-set_other}
 use Rattle.call.specs.Figures.{Five, slot_of}
 use Rattle.word.specs.declared.word.Word.{Word}

@@ -2,29 +2,28 @@
 -- Else, of one core, its own calls would disagree; and of two cores, both accesses would lie in one phase under one plan:
 -- where a read_only strip refuses the store, in a written strip the first run shows a race, and in a locked strip the same
 -- cores have released the lock before both, so that both are by the one holder. Assumes nothing.
-use Rattle.std.proofs.Common.{◌≡◌, ℕ, ◌+◌, ◌-◌, ◌/◌, ◌^◌, ◌<◌, ◌≤◌, Bool, true, false, cond, not, ◌||◌, eqb, leb, ◌⊎◌, List, [], ◌∷◌, ◌++◌, length, is_some, Some, None, fold, Option, sym, refl, ap, ◌∙◌, subst, inl, inr, ⊎_elim, append_assoc, mod-lt, arith, lit<, length-append}
+use Rattle.std.proofs.Common.{◌≡◌, ℕ, ◌+◌, ◌-◌, ◌/◌, ◌^◌, ◌<◌, ◌≤◌, Bool, true, false, cond, not, eqb, leb, List, [], ◌∷◌, ◌++◌, length, is_some, Some, None, fold, Option, sym, refl, ap, ◌∙◌, subst, ⊎_elim, append_assoc, mod-lt, arith, lit<, length-append}
 use Rattle.std.proofs.lemmas.List.{append-nil, append_cancel_left, nil_from_length}
-use Rattle.std.proofs.lemmas.Bool.{eq-eqb, or_right, cases_eq, both_ways, cases_Bool, cond-true}
-use Rattle.call.specs.Calls.{caller_of}
+use Rattle.std.proofs.lemmas.Bool.{eq-eqb, cases_eq, both_ways, cond-true}
 use Rattle.call.specs.Figures.{Five, strip_of}
 use Rattle.call.specs.declared.call.Call.{Call}
 use Rattle.call.specs.declared.call.Call.TheVariants as call
-use Rattle.call.specs.declared.refusal.Access.TheVariants.{Load, Store}
+use Rattle.call.specs.declared.refusal.Access.TheVariants.{Store}
 use Rattle.call.specs.declared.refusal.Refusal.{Refusal}
-use Rattle.rules.specs.Histories.{accepted, refused_with, store_of, Written, Wanted, plan_of, acquirers, releasers, order_of_holders, concerns, calls_of, entered_by, ledger_of}
+use Rattle.rules.specs.Histories.{accepted, refused_with, store_of, Written, Wanted, plan_of, acquirers, releasers, concerns, calls_of, entered_by, ledger_of}
 use Rattle.rules.specs.Laws.{SameOrder}
 use Rattle.rules.specs.Plans.{Mode, read_only, written, locked, bits_of, mode_of_bits, mode_of, is_read_only}
-use Rattle.rules.specs.Refusals.{refusal, load_race, store_race, earliest, shut_out}
+use Rattle.rules.specs.Refusals.{refusal, load_race, store_race, earliest}
 use Rattle.rules.specs.Runs.{Event, History, Ran}
 use Rattle.rules.specs.State.{Ledger, Setting, setting}
 use Rattle.rules.specs.Steps.{entered}
 use Rattle.rules.proofs.Accesses.{first_none, no_race, only_own, stored_in, stored_after_load, stored_before, stored_now}
 use Rattle.rules.proofs.Equal.{folded_append}
-use Rattle.rules.proofs.Holders.{times, same_beginning, holders_begin}
+use Rattle.rules.proofs.Holders.{same_beginning, holders_begin}
 use Rattle.rules.proofs.Invariant.{not_shut_out}
 use Rattle.rules.proofs.Own.{AllAccepted, all_accepted, accepted_front, own_releases, releases_own, plans, plans_in, plans_of, plans_own, last_plan, plan_told}
 use Rattle.rules.proofs.Splits.{Spot, Placed, earlier, same, later, two_splits, joined_append}
-use Rattle.rules.proofs.Turns.{Legal, legal, Turn, turn, line}
+use Rattle.rules.proofs.Turns.{Legal, legal, turn, line}
 use Rattle.rules.proofs.Unrefused.{load_passes, store_passes}
 use Rattle.rules.proofs.Walking.{same_some}
 

@@ -1,18 +1,17 @@
 -- The race that refusal 6 names, found in the history: the ledger's accesses are those of the events of this phase, in order,
 -- and the first of them that passes a test stands in the history. Assumes nothing.
-use Rattle.std.proofs.Common.{◌≡◌, ℕ, Bool, true, false, cond, not, ◌&&◌, ◌||◌, eqb, leb, ◌⊎◌, List, [], ◌∷◌, ◌++◌, is_some, Some, None, Option, sym, refl, ap, ◌∙◌, subst, inl, inr, ⊎_elim, append_assoc, arith}
+use Rattle.std.proofs.Common.{◌≡◌, ℕ, Bool, true, false, cond, not, ◌&&◌, ◌||◌, eqb, leb, List, [], ◌∷◌, ◌++◌, Some, None, Option, sym, refl, ap, ◌∙◌, subst, inl, inr, ⊎_elim, arith}
 use Rattle.std.specs.List.{flat_map}
 use Rattle.std.proofs.lemmas.List.{append-nil}
-use Rattle.std.proofs.lemmas.Bool.{eqb-true, eqb-false, eq-eqb, and_parts, both_ways, cond-true, cond-false, not-true}
-use Rattle.call.specs.declared.answer.Answer.TheVariants.{Refused}
+use Rattle.std.proofs.lemmas.Bool.{eqb-true, eqb-false, and_parts, cond-true, cond-false, not-true}
 use Rattle.call.specs.declared.call.Call.{Call}
 use Rattle.call.specs.declared.call.Call.TheVariants as call
 use Rattle.call.specs.declared.refusal.Access.{Access}
 use Rattle.call.specs.declared.refusal.Access.TheVariants.{Load, Store}
 use Rattle.call.specs.declared.refusal.Refusal.{Refusal}
 use Rattle.call.specs.declared.refusal.Refusal.TheVariants.{NoCore, OutsideBoard, Waiting, ReadOnly, NotHolder, Race, AllowanceSpent, NoLock, HoldsLock, NotHeld, BadMode, LockHeld}
-use Rattle.rules.specs.Histories.{accepted, refused_with, of_accepted, begins, plan_of, touches, accessed, phase_by, this_phase, passes, other_access, entered_by, ledger_of}
-use Rattle.rules.specs.Laws.{RaceNamed, RacesNamed}
+use Rattle.rules.specs.Histories.{accepted, refused_with, begins, plan_of, touches, accessed, phase_by, this_phase, passes, other_access, entered_by, ledger_of}
+use Rattle.rules.specs.Laws.{RacesNamed}
 use Rattle.rules.specs.Plans.{Mode, read_only, written, locked, is_read_only, has_bad_mode}
 use Rattle.rules.specs.Refusals.{same_access, by_another, earliest, as_race, load_race, store_race, refusal, rows, mode, waits, holds, holds_some, some_held, shut_out}
 use Rattle.rules.specs.Runs.{Event, History, Ran}
@@ -22,7 +21,7 @@ use Rattle.rules.specs.Tables.{first, when, some_of}
 use Rattle.rules.proofs.Accesses.{some_of_append}
 use Rattle.rules.proofs.Fresh.{refusals_told}
 use Rattle.rules.proofs.Members.{In}
-use Rattle.rules.proofs.Splits.{along, joined_append, joined_push}
+use Rattle.rules.proofs.Splits.{along, joined_push}
 use Rattle.rules.proofs.Walking.{folded_push}
 
 -- ── this phase's accesses ──

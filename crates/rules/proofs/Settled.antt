@@ -1,18 +1,18 @@
 -- A run that ends with a settle leaves on the page, at every place below the size, what the history says: the last store or
 -- the opening word. So two such pages agree exactly where the last stores do, since a word's mark tells core and count.
 -- Assumes nothing.
-use Rattle.std.proofs.Common.{◌≡◌, ℕ, ◌<◌, ◌≤◌, Bool, true, false, List, [], ◌∷◌, ◌++◌, Some, None, Option, sym, refl, ap, ◌∙◌, subst, arith}
+use Rattle.std.proofs.Common.{◌≡◌, ℕ, ◌<◌, [], ◌∷◌, Some, None, Option, sym, refl, ap, ◌∙◌, subst, arith}
 use Rattle.std.proofs.lemmas.List.{append-nil}
 use Rattle.call.specs.declared.call.Call.{Call}
 use Rattle.call.specs.declared.call.Call.TheVariants.{Settle}
-use Rattle.word.specs.Lawful.{Stores, mark_of}
+use Rattle.word.specs.Lawful.{Stores}
 use Rattle.word.specs.Marks.{number, mark_at}
 use Rattle.word.specs.declared.word.Word.{Word}
 use Rattle.word.proofs.Marks.{marks_apart}
 use Rattle.rules.specs.Histories.{ToldStore, last_store, Fresh}
-use Rattle.rules.specs.Laws.{Settled, SettledPages, Alike, old_word, size}
-use Rattle.rules.specs.Runs.{Event, History, Ran}
-use Rattle.rules.specs.State.{State, Memory, setting, page_word, unmarked}
+use Rattle.rules.specs.Laws.{Settled, SettledPages, old_word, size}
+use Rattle.rules.specs.Runs.{Ran}
+use Rattle.rules.specs.State.{State, setting, page_word}
 use Rattle.rules.specs.Steps.{step}
 use Rattle.rules.proofs.Equal.{fresh_same}
 use Rattle.rules.proofs.Fresh.{reached}

@@ -1,6 +1,6 @@
 -- A table changed at one place: the two cases of a look-up. Assumes nothing.
-use Rattle.std.proofs.Common.{◌≡◌, ℕ, Bool, true, false, cond, ◌&&◌, eqb, ◌⊎◌, sym, refl, ◌∙◌, inl, inr, arith}
-use Rattle.std.proofs.lemmas.Bool.{eqb-true, eqb-false, and_parts, and_cases, eq-eqb, and_from, cond-true, cond-false}
+use Rattle.std.proofs.Common.{◌≡◌, ℕ, Bool, true, false, cond, ◌&&◌, eqb, ◌⊎◌, refl, inl, inr, arith}
+use Rattle.std.proofs.lemmas.Bool.{eqb-true, eqb-false, and_parts, eq-eqb, cond-true, cond-false}
 use Rattle.rules.specs.Tables.{upd, upd2}
 
 -- at the changed place the new entry, elsewhere the old one

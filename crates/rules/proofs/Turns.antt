@@ -1,22 +1,21 @@
 -- The turns of a lock: at every moment of a run its acquirers are its releasers with the holder and the queue behind them,
 -- since a release is by the holder and passes the lock to the head of the queue. So the order of holders begins with the
 -- releasers so far and then the holder. Assumes nothing.
-use Rattle.std.proofs.Common.{◌≡◌, ℕ, zero, suc, ◌+◌, ◌-◌, ◌≤◌, Bool, true, false, cond, not, eqb, ◌⊎◌, List, [], ◌∷◌, ◌++◌, length, take, is_some, Some, None, Option, sym, refl, ap, ◌∙◌, subst, inl, inr, ⊎_elim, append_assoc, arith, length-append}
+use Rattle.std.proofs.Common.{◌≡◌, ℕ, true, not, eqb, List, [], ◌∷◌, ◌++◌, is_some, Some, None, Option, sym, refl, ap, ◌∙◌, subst, ⊎_elim, append_assoc, arith}
 use Rattle.std.proofs.lemmas.List.{append-nil}
-use Rattle.std.proofs.lemmas.Bool.{eqb-true, eqb-false, cond-true, cond-false, cases_Bool, not-true, cases_eq, eq-eqb, ne_eqb}
+use Rattle.std.proofs.lemmas.Bool.{cond-true, cond-false, eq-eqb, ne_eqb}
 use Rattle.call.specs.declared.call.Call.{Call}
 use Rattle.call.specs.declared.call.Call.TheVariants as call
 use Rattle.call.specs.declared.refusal.Refusal.{Refusal}
-use Rattle.rules.specs.Histories.{accepted, refused_with, of_accepted, acquired, released, acquire_of, release_of, Asked, cores_for, acquirers, releasers, order_of_holders, entered_by, ledger_of}
+use Rattle.rules.specs.Histories.{accepted, refused_with, acquire_of, release_of, Asked, cores_for, acquirers, releasers, entered_by, ledger_of}
 use Rattle.rules.specs.Laws.{Unrefused}
 use Rattle.rules.specs.Refusals.{refusal}
 use Rattle.rules.specs.Runs.{Event, History, Ran}
 use Rattle.rules.specs.State.{Lock, Ledger, Setting, setting}
-use Rattle.rules.specs.Steps.{entered, acquired_by, released_to, forgetting}
-use Rattle.rules.specs.Tables.{upd}
+use Rattle.rules.specs.Steps.{entered, acquired_by, released_to}
 use Rattle.rules.proofs.Fresh.{refusals_told}
 use Rattle.rules.proofs.Invariant.{holds_tells}
-use Rattle.rules.proofs.Splits.{along, joined_append, joined_push}
+use Rattle.rules.proofs.Splits.{along, joined_push}
 use Rattle.rules.proofs.Tables.{upd_cases}
 use Rattle.rules.proofs.Unrefused.{release_passes}
 use Rattle.rules.proofs.Walking.{folded_push, of_unrefused}

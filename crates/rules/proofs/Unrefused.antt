@@ -1,14 +1,12 @@
 -- What a call that is not refused tells: no row of it is met. Assumes nothing.
-use Rattle.std.proofs.Common.{◌≡◌, ℕ, ◌<◌, Bool, true, false, not, leb, List, [], ◌∷◌, Some, None, Option}
+use Rattle.std.proofs.Common.{◌≡◌, ℕ, ◌<◌, true, false, not, leb, List, [], ◌∷◌, None, Option}
 use Rattle.std.proofs.lemmas.Bool.{leb-false, not-false}
-use Rattle.call.specs.declared.call.Call.{Call}
 use Rattle.call.specs.declared.call.Call.TheVariants as call
-use Rattle.call.specs.declared.refusal.Refusal.{Refusal}
-use Rattle.call.specs.declared.refusal.Refusal.TheVariants.{NoCore, OutsideBoard, Waiting, ReadOnly, NotHolder, AllowanceSpent, NoLock, HoldsLock, NotHeld, BadMode, LockHeld}
-use Rattle.rules.specs.Plans.{Mode, mode_of, is_read_only, has_bad_mode}
-use Rattle.rules.specs.Refusals.{refusal, rows, waits, holds, holds_some, some_held, shut_out, load_race, store_race}
+use Rattle.call.specs.declared.refusal.Refusal.TheVariants.{NoCore, OutsideBoard, Waiting, ReadOnly, NotHolder, AllowanceSpent, NoLock, HoldsLock, NotHeld}
+use Rattle.rules.specs.Plans.{Mode, mode_of, is_read_only}
+use Rattle.rules.specs.Refusals.{refusal, rows, waits, holds, holds_some, shut_out, load_race, store_race}
 use Rattle.rules.specs.State.{Ledger, Setting}
-use Rattle.rules.specs.Tables.{first, when}
+use Rattle.rules.specs.Tables.{first}
 use Rattle.rules.proofs.Accesses.{first_none, when_none}
 
 -- no answer in a list of answers

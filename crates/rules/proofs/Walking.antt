@@ -1,11 +1,11 @@
 -- Along a run the invariant holds at every moment, the ledger is the one that the history tells, and the words that the
 -- invariant speaks of are the history's: the last store to each place, or the opening word. One walk from the opening to
 -- any moment serves all laws. Assumes nothing.
-use Rattle.std.proofs.Common.{◌≡◌, ℕ, ◌+◌, ◌<◌, ◌≤◌, Bool, true, false, cond, not, eqb, ◌⊎◌, List, [], ◌∷◌, ◌++◌, length, get_or, is_some, Some, None, fold, Option, sym, refl, ap, ◌∙◌, subst, inl, inr, ⊎_elim, append_assoc, arith}
+use Rattle.std.proofs.Common.{◌≡◌, ℕ, ◌+◌, ◌<◌, ◌≤◌, Bool, true, false, cond, not, eqb, List, [], ◌∷◌, ◌++◌, is_some, Some, None, fold, Option, sym, refl, ap, ◌∙◌, subst, ⊎_elim, append_assoc, arith}
 use Rattle.std.proofs.lemmas.List.{append-nil}
 use Rattle.std.proofs.lemmas.Bool.{eqb-true, eqb-false, cond-true}
 use Rattle.call.specs.declared.answer.Answer.{Answer}
-use Rattle.call.specs.declared.answer.Answer.TheVariants.{Loaded, Stored, Done, Refused}
+use Rattle.call.specs.declared.answer.Answer.TheVariants.{Refused}
 use Rattle.call.specs.declared.call.Call.{Call}
 use Rattle.call.specs.declared.call.Call.TheVariants as call
 use Rattle.call.specs.declared.refusal.Refusal.{Refusal}
@@ -14,14 +14,14 @@ use Rattle.word.specs.Lawful.{Stores, mark_of}
 use Rattle.word.specs.Marks.{number}
 use Rattle.word.specs.declared.word.Word.{Word}
 use Rattle.word.proofs.Marks.{stores_lawful, number_mark_at}
-use Rattle.rules.specs.Histories.{accepted, refused_with, of_accepted, store_of, stored, Written, ToldStore, Tracked, track_by, tracked, last_store, Fresh, entered_by, ledger_of}
+use Rattle.rules.specs.Histories.{accepted, refused_with, of_accepted, store_of, Written, ToldStore, Tracked, track_by, tracked, last_store, Fresh, entered_by, ledger_of}
 use Rattle.rules.specs.Refusals.{refusal}
 use Rattle.rules.specs.Runs.{Event, History, Chain}
 use Rattle.rules.specs.State.{Ledger, State, Setting}
 use Rattle.rules.specs.Steps.{step, outcome, answered, entered, changes, Changes, next_mark}
 use Rattle.rules.specs.Tables.{upd}
 use Rattle.rules.proofs.Guards.{guarded_grows, same_grows}
-use Rattle.rules.proofs.Invariant.{Fits, Good, Phased, now_after, after, accepted_good}
+use Rattle.rules.proofs.Invariant.{Fits, Good, now_after, after, accepted_good}
 use Rattle.rules.proofs.Tables.{upd_cases}
 use Rattle.rules.proofs.Unrefused.{store_passes}
 

@@ -5,7 +5,7 @@ use Rattle.call.specs.Figures.{Five, five, checked}
 use Rattle.call.specs.Told.{told, answer_told, figure_number}
 use Rattle.call.specs.declared.answer.Told.{Told}
 use Rattle.call.specs.declared.call.Call.{Call}
-use Rattle.call.specs.declared.call.Call.TheVariants.{Load, Store, Evict, Acquire, Release, Phase, Settle}
+use Rattle.call.specs.declared.call.Call.TheVariants.{Load, Store, Acquire, Phase}
 use Rattle.call.specs.declared.fault.FigureFault.{FigureFault}
 use Rattle.sets.specs.Fills.{fill}
 use Rattle.sets.specs.Rows.{bits_put, words_of_bits}

@@ -1,10 +1,10 @@
 -- What an accepted call does to page, caches and owners, row by row: the state of the copy and the call decide the row.
 -- Assumes nothing.
-use Rattle.std.specs.Prelude.{ℕ, ◌+◌, Bool, true, false, cond, not, ◌&&◌, List, [], ◌∷◌, map, Some, None, fold, Option, ◌==◌, slice_set}
+use Rattle.std.specs.Prelude.{ℕ, ◌+◌, Bool, true, false, cond, not, List, [], ◌∷◌, map, Some, None, fold, Option, ◌==◌, slice_set}
 use Rattle.std.specs.List.{flat_map}
 use Rattle.call.specs.Figures.{Five, slot_of}
 use Rattle.word.specs.declared.word.Word.{Word}
-use Rattle.rules.specs.Plans.{Mode, read_only, written, locked, mode_of, is_read_only}
+use Rattle.rules.specs.Plans.{mode_of, is_read_only}
 use Rattle.rules.specs.State.{Copy, invalid, valid, registered, Memory, page_word, copy_of}
 use Rattle.rules.specs.Tables.{upd, upd2, below}
 

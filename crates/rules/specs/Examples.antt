@@ -1,17 +1,16 @@
 -- Worked runs: the sample job's twelve answers; two orders of one run that meet the premises of the order law; and a copy in a
 -- locked strip that would be stale if it were not fetched again. Assumes nothing.
-use Rattle.std.specs.Prelude.{◌≡◌, ℕ, List, [], ◌∷◌, map}
+use Rattle.std.specs.Prelude.{◌≡◌, List, [], ◌∷◌, map}
 use Rattle.call.specs.Told.{told, answer_told}
 use Rattle.call.specs.declared.answer.Answer.TheVariants.{Loaded, Stored, Done}
 use Rattle.call.specs.declared.call.Call.{Call}
-use Rattle.call.specs.declared.call.Call.TheVariants.{Load, Store, Evict, Acquire, Release, Phase, Settle}
+use Rattle.call.specs.declared.call.Call.TheVariants.{Load, Store, Acquire, Release, Phase, Settle}
 use Rattle.word.specs.Marks.{mark_at}
-use Rattle.word.specs.declared.word.Word.{Word}
 use Rattle.rules.specs.Cases.{sample}
 use Rattle.rules.specs.Laws.{SameOrder}
 use Rattle.rules.specs.Runs.{Ran, History, history_of}
 use Rattle.rules.specs.Signed.{played, bloom}
-use Rattle.rules.specs.State.{Copy, valid, setting}
+use Rattle.rules.specs.State.{valid, setting}
 use Rattle.word.specs.Words.{blank_word}
 use Rattle.rules.specs.Steps.{step}
 

@@ -1,6 +1,6 @@
 -- What a history tells, in the subject's words. Laws speak of calls by the projections of the first part alone.
 -- Assumes nothing.
-use Rattle.std.specs.Prelude.{◌≡◌, ℕ, ◌+◌, Bool, true, false, cond, not, ◌&&◌, ◌||◌, List, [], ◌∷◌, ◌++◌, map, length, take, is_some, Some, None, fold, Option, ◌==◌}
+use Rattle.std.specs.Prelude.{◌≡◌, ℕ, ◌+◌, Bool, false, cond, not, ◌||◌, List, [], ◌∷◌, ◌++◌, length, take, is_some, Some, None, fold, Option, ◌==◌}
 use Rattle.std.specs.List.{flat_map}
 use Rattle.call.specs.Calls.{caller_of}
 use Rattle.call.specs.declared.answer.Answer.{Answer}
@@ -17,7 +17,7 @@ use Rattle.rules.specs.Runs.{Event, History}
 use Rattle.rules.specs.Refusals.{by_another}
 use Rattle.rules.specs.State.{Accessed, Ledger, blank_ledger, unmarked}
 use Rattle.rules.specs.Steps.{entered}
-use Rattle.rules.specs.Tables.{upd, some_of}
+use Rattle.rules.specs.Tables.{upd}
 
 -- ── projections of a call ──
 

@@ -1,13 +1,12 @@
 -- The laws of whole runs. Each is said of histories of calls and answers, refused calls included, for runs of any length;
 -- no cache, slot or queue stands in them. Assumes nothing.
-use Rattle.std.specs.Prelude.{◌≡◌, ℕ, ◌<◌, Bool, true, false, List, [], ◌∷◌, ◌++◌, length, Some, None, Option, slice_index_or}
+use Rattle.std.specs.Prelude.{◌≡◌, ℕ, ◌<◌, true, false, List, [], ◌∷◌, ◌++◌, Some, slice_index_or}
 use Rattle.call.specs.Figures.{Five}
 use Rattle.call.specs.declared.answer.Answer.TheVariants.{Refused}
 use Rattle.call.specs.declared.call.Call.{Call}
 use Rattle.call.specs.declared.call.Call.TheVariants.{Settle}
 use Rattle.call.specs.declared.refusal.Access.{Access}
 use Rattle.call.specs.declared.refusal.Access.TheVariants.{Load, Store}
-use Rattle.call.specs.declared.refusal.Refusal.{Refusal}
 use Rattle.call.specs.declared.refusal.Refusal.TheVariants.{Race}
 use Rattle.word.specs.declared.word.Word.{Word}
 use Rattle.rules.specs.Histories.{accepted, refused_with, loaded, LoadGiven, stores_to, last_store, Fresh, ledger_of, touches, accessed, this_phase, other_access, order_of_holders, calls_of}

@@ -1,5 +1,5 @@
 -- Plans: the mode of each strip. Assumes nothing.
-use Rattle.std.specs.Prelude.{ℕ, ◌-◌, ◌/◌, ◌%◌, ◌^◌, ◌<◌, ◌≤◌, Bool, true, false, cond, ◌&&◌, ◌==◌, nat_le}
+use Rattle.std.specs.Prelude.{ℕ, ◌-◌, ◌/◌, ◌%◌, ◌^◌, Bool, true, false, cond, ◌&&◌, ◌==◌, nat_le}
 use Rattle.call.specs.Figures.{Five, strip_of}
 use Rattle.rules.specs.Tables.{some_of, below}
 

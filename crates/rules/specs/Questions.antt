@@ -1,6 +1,6 @@
 -- The two questions, which alter nothing: peek gives a page word that has no owner, and owned counts the words with an owner.
 -- Assumes nothing.
-use Rattle.std.specs.Prelude.{ℕ, ◌+◌, Bool, cond, List, [], ◌∷◌, is_some, Some, None, Ok, Err, Option, Result, nat_le}
+use Rattle.std.specs.Prelude.{ℕ, ◌+◌, cond, List, [], ◌∷◌, is_some, Some, None, Ok, Err, Option, Result, nat_le}
 use Rattle.call.specs.declared.refusal.Refusal.{Refusal}
 use Rattle.call.specs.declared.refusal.Refusal.TheVariants.{OutsideBoard, Owned}
 use Rattle.word.specs.declared.word.Word.{Word}

@@ -1,6 +1,6 @@
 -- Whole runs: calls played one after another on a board just opened, in both readings of a step.
 -- Assumes nothing.
-use Rattle.std.specs.Prelude.{◌≡◌, ℕ, List, [], ◌∷◌, ◌++◌, Ok}
+use Rattle.std.specs.Prelude.{◌≡◌, ℕ, List, [], ◌∷◌, Ok}
 use Rattle.call.specs.Figures.{Five, checked}
 use Rattle.call.specs.declared.answer.Answer.{Answer}
 use Rattle.call.specs.declared.call.Call.{Call}
@@ -8,7 +8,7 @@ use Rattle.sets.specs.Sentences as signature
 use Rattle.sets.specs.Sentences.{Sets}
 use Rattle.word.specs.declared.word.Word.{Word}
 use Rattle.rules.specs.State.{State, Setting, setting, opening}
-use Rattle.rules.specs.Steps.{Outcome, step, Operations, changed_by, clear_all, Changes}
+use Rattle.rules.specs.Steps.{step, Operations, changed_by, clear_all, Changes}
 
 -- ── with a signature's own operations ──
 

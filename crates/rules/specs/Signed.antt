@@ -1,6 +1,6 @@
 -- The Bloom signature's operations as the rules have them, on its bits alone; the examples below are played with it.
 -- Assumes nothing.
-use Rattle.std.specs.Prelude.{ℕ, false, List, replicate}
+use Rattle.std.specs.Prelude.{false, List, replicate}
 use Rattle.call.specs.Figures.{Five}
 use Rattle.call.specs.declared.call.Call.{Call}
 use Rattle.sets.specs.Rows.{bits_put, rows_taken_in, rows_cleared, words_of_bits}

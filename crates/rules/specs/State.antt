@@ -1,6 +1,6 @@
 -- What a board holds: page, caches and owners, and the ledger of its calls, by which alone calls are refused.
 -- Assumes nothing.
-use Rattle.std.specs.Prelude.{ℕ, zero, suc, min, Bool, cond, List, [], ◌∷◌, length, Some, None, Option, ◌==◌, slice_index_or}
+use Rattle.std.specs.Prelude.{ℕ, zero, suc, min, cond, List, [], ◌∷◌, length, None, Option, ◌==◌, slice_index_or}
 use Rattle.call.specs.Figures.{Five, slot_of}
 use Rattle.call.specs.declared.refusal.Access.{Access}
 use Rattle.word.specs.Words.{blank_mark, blank_word}

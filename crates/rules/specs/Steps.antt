@@ -1,7 +1,7 @@
 -- A call on a board: what it answers, what it leaves and what it asks of the signature. Two readings: with a signature's
 -- own operations, which decides everything, and with sets that are free within the signature's sentences.
 -- Assumes nothing.
-use Rattle.std.specs.Prelude.{◌≡◌, ℕ, ◌+◌, Bool, true, false, cond, ◌&&◌, List, [], ◌∷◌, ◌++◌, map, Some, None, fold, Option}
+use Rattle.std.specs.Prelude.{◌≡◌, ℕ, ◌+◌, Bool, cond, ◌&&◌, List, [], ◌∷◌, ◌++◌, map, Some, None, fold, Option}
 use Rattle.call.specs.Figures.{Five}
 use Rattle.call.specs.declared.answer.Answer.{Answer}
 use Rattle.call.specs.declared.answer.Answer.TheVariants.{Loaded, Stored, Done, Refused}
@@ -15,12 +15,11 @@ use Rattle.sets.specs.Sentences.{Sets}
 use Rattle.word.specs.Lawful.{mark_of}
 use Rattle.word.specs.Marks.{mark_at}
 use Rattle.word.specs.declared.mark.Mark.{Mark}
-use Rattle.word.specs.declared.word.Word.{Word}
 use Rattle.rules.specs.Effects as effect
 use Rattle.rules.specs.Effects.{Got, Put}
 use Rattle.rules.specs.Plans.{mode_of, is_locked}
 use Rattle.rules.specs.Refusals.{refusal}
-use Rattle.rules.specs.State.{Lock, Accessed, Ledger, Memory, State, Setting}
+use Rattle.rules.specs.State.{Lock, Ledger, Memory, State, Setting}
 use Rattle.rules.specs.Tables.{upd, below}
 
 -- ── the ledger after an accepted call ──

@@ -1,6 +1,5 @@
 -- Tables as functions of their index, changed at one place; and small helpers on lists. Assumes nothing.
-use Rattle.std.specs.Prelude.{ℕ, zero, suc, Bool, true, false, cond, ◌&&◌, ◌||◌, List, [], ◌∷◌, ◌++◌, map, Some, None, Option, ◌==◌}
-use Rattle.std.specs.List.{flat_map}
+use Rattle.std.specs.Prelude.{ℕ, zero, suc, Bool, true, false, cond, ◌&&◌, ◌||◌, List, [], ◌∷◌, ◌++◌, Some, None, Option, ◌==◌}
 
 -- the table with x at place k
 unfoldable pub upd : {X : Type 0} → (ℕ → X) → ℕ → X → ℕ → X

@@ -1,6 +1,6 @@
 -- Eight rows of bits in one table of 64-bit words, a row in `width` words one after another: which bit is where, and what the
 -- table is after a bit is set, a row joined to another or a row emptied. Assumes nothing.
-use Rattle.std.specs.Prelude.{ℕ, zero, suc, ◌+◌, ◌*◌, ◌/◌, ◌%◌, ◌^◌, Bool, ◌&&◌, List, set, ◌==◌, bit_or, nat_lt, slice_index, slice_set}
+use Rattle.std.specs.Prelude.{ℕ, zero, suc, ◌+◌, ◌*◌, ◌/◌, ◌%◌, ◌^◌, Bool, ◌&&◌, List, ◌==◌, bit_or, nat_lt, slice_index, slice_set}
 use Rattle.sets.specs.Sentences.{Sets}
 
 -- whether bit i of a number is set, the lowest being bit 0

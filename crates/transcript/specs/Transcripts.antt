@@ -1,5 +1,5 @@
 -- What playback prints for a job, and what becomes of the buffer that it is written into. Assumes nothing.
-use Rattle.std.specs.Prelude.{◌≡◌, ℕ, ◌≤◌, Bool, cond, List, ◌++◌, length, take, drop, replicate, Some, None, Ok, Err, Option, Result}
+use Rattle.std.specs.Prelude.{◌≡◌, ℕ, ◌≤◌, cond, List, ◌++◌, length, take, drop, replicate, Some, None, Ok, Err, Option, Result}
 use Rattle.std.specs.List.{flat_map}
 use Rattle.board.specs.Obeying.{operations}
 use Rattle.board.specs.Runs.{records_of, Runs}

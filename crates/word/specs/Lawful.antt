@@ -1,6 +1,6 @@
 -- Which numbers are marks. It stands apart from Marks.antt since the type of a mark cites it.
 -- Assumes nothing.
-use Rattle.std.specs.Prelude.{◌≡◌, ℕ, ◌+◌, ◌*◌, ◌/◌, ◌%◌, ◌<◌, ◌≤◌, Bool, true, false, ◌&&◌, ◌||◌, ◌⊎◌, ◌==◌, nat_le, nat_lt}
+use Rattle.std.specs.Prelude.{◌≡◌, ℕ, ◌+◌, ◌*◌, ◌%◌, ◌<◌, ◌≤◌, Bool, ◌&&◌, ◌||◌, ◌⊎◌, ◌==◌, nat_le, nat_lt}
 
 -- a core that can store, and its count of accepted stores with the marked one included
 abbrev pub Stores : ℕ → ℕ → Type 0

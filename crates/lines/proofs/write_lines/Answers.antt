@@ -1,4 +1,4 @@
-use Rattle.std.proofs.Common.{◌≡◌, Bool, true, cond, length, Some, sym, ap, ◌∙◌, subst, arith}
+use Rattle.std.proofs.Common.{◌≡◌, true, length, Some, ap, arith}
 use Rattle.std.proofs.lemmas.Bool.{le-leb}
 use Rattle.lines.specs.Lines.{has_room}
 use Rattle.lines.proofs.Writing.{from_first}

@@ -1,7 +1,6 @@
 use Rattle.std.proofs.Common.{◌≡◌, ◌+◌, [], ◌++◌, string_bytes, sym, refl, ap, ◌∙◌, arith}
 use Rattle.std.proofs.lemmas.List.{append-nil}
 use Rattle.std.proofs.lemmas.Slice.{pushed}
-use Rattle.call.specs.declared.call.Call.{Call}
 use Rattle.job.specs.Jobs.{rest}
 use Rattle.listing.specs.Lines.{call_lines}
 use Rattle.listing.proofs.Texts.{line_step, fewer, none_left}

@@ -1,7 +1,7 @@
 use Rattle.std.proofs.Common.{ℕ, List, length, subst}
 use Rattle.board.specs.Obeying.{operations}
 use Rattle.play.specs.Playing.{verdict}
-use Rattle.transcript.specs.Transcripts.{text_of, fields_of, outcome_text, outcome_fields, Written}
+use Rattle.transcript.specs.Transcripts.{fields_of, outcome_text, Written}
 use Rattle.transcript.proofs.Texts.{within, same_text, same_fields}
 use Rattle.transcript.proofs.play_and_write.Goals as goal
 

@@ -1,4 +1,4 @@
-use Rattle.std.proofs.Common.{◌≡◌, ℕ, List, length, ◌∙◌, subst}
+use Rattle.std.proofs.Common.{ℕ, List, length, ◌∙◌, subst}
 use Rattle.play.specs.Playing.{verdict}
 use Rattle.transcript.specs.Transcripts.{text_of, fields_of, bloom, Written}
 use Rattle.transcript.proofs.Texts.{fits, plays_fresh}

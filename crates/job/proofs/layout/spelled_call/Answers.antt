@@ -1,4 +1,4 @@
-use Rattle.std.proofs.Common.{◌≡◌, ap, ◌∙◌, arith}
+use Rattle.std.proofs.Common.{◌≡◌, arith}
 use Rattle.std.proofs.lemmas.List.{take_rest}
 use Rattle.job.proofs.Fields.{last_nine}
 use Rattle.job.specs.Bytes.{field}

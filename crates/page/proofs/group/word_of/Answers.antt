@@ -1,4 +1,3 @@
-use Rattle.std.proofs.Common.{ℕ, ap}
 use Rattle.page.proofs.Groups.{word_from_halves}
 use Rattle.page.proofs.Marks.{mark_read_some, mark_read_none}
 use Rattle.page.proofs.group.word_of.Goals as goal

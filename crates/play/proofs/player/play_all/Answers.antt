@@ -1,9 +1,8 @@
-use Rattle.std.proofs.Common.{◌≡◌, ℕ, ◌+◌, length, drop, ap, ◌∙◌, subst, add-one, arith, length-set}
+use Rattle.std.proofs.Common.{◌≡◌, ℕ, length, drop, ap, ◌∙◌, subst, add-one, arith, length-set}
 use Rattle.std.proofs.lemmas.List.{take_all}
 use Rattle.board.proofs.Whole.{plays_next}
 use Rattle.board.specs.Obeying.{Obeys, record_of, operations}
 use Rattle.board.specs.Runs.{Plays}
-use Rattle.call.specs.declared.answer.AnswerRecord.{AnswerRecord}
 use Rattle.call.specs.declared.call.Call.{Call}
 use Rattle.job.specs.Jobs.{calls_of, rest, first}
 use Rattle.play.proofs.Turns.{read_call, all_read, fewer}

@@ -1,7 +1,7 @@
 use Rattle.std.proofs.Common.{◌≡◌, List, length, Result, sym, refl, ap, ◌∙◌, subst}
 use Rattle.board.proofs.Whole.{runs}
 use Rattle.board.specs.Obeying.{operations}
-use Rattle.board.specs.Runs.{Runs, Plays}
+use Rattle.board.specs.Runs.{Runs}
 use Rattle.call.proofs.Passing.{figures_checked}
 use Rattle.call.specs.Figures.{Five, figures}
 use Rattle.call.specs.declared.call.Call.{Call}

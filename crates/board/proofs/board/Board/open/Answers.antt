@@ -1,6 +1,5 @@
-use Rattle.std.proofs.Common.{refl, ap, ◌∙◌}
+use Rattle.std.proofs.Common.{ap, ◌∙◌}
 use Rattle.call.specs.Figures.{figures}
-use Rattle.call.specs.declared.figures.Figures.{Figures}
 use Rattle.memory.specs.Views as memory
 use Rattle.rules.specs.State.{Memory}
 use Rattle.board.specs.Views.{counts_of}

@@ -1,4 +1,4 @@
-use Rattle.std.proofs.Common.{refl, ap, ◌∙◌, arith}
+use Rattle.std.proofs.Common.{refl, arith}
 use Rattle.call.specs.declared.answer.Answer.TheVariants.{Stored}
 use Rattle.board.specs.Views.{counts_of}
 use Rattle.board.proofs.Counts.{counts_set}

@@ -1,4 +1,4 @@
-use Rattle.std.proofs.Common.{◌≡◌, ℕ, is_some, Option, sym, ap, ◌∙◌, arith, below_more}
+use Rattle.std.proofs.Common.{ℕ, is_some, Option, sym, ap, ◌∙◌, arith, below_more}
 use Rattle.rules.proofs.Members.{in_below}
 use Rattle.rules.specs.Tables.{below}
 use Rattle.locks.proofs.Questions.{one_of}

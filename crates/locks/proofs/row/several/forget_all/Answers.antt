@@ -1,4 +1,3 @@
-use Rattle.std.proofs.Common.{arith}
 use Rattle.locks.proofs.Forgetting.{forget_more, forget_end}
 use Rattle.locks.proofs.row.several.forget_all.Goals as goal
 

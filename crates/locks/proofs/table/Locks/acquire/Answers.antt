@@ -1,4 +1,4 @@
-use Rattle.std.proofs.Common.{sym, ◌∙◌, rules}
+use Rattle.std.proofs.Common.{sym, ◌∙◌}
 use Rattle.locks.proofs.Kept.{neither}
 use Rattle.locks.proofs.table.Locks.acquire.Goals as goal
 

@@ -1,7 +1,6 @@
-use Rattle.std.proofs.Common.{◌≡◌, ℕ, ◌<◌, false, List, length, get_or, None, sym, ap, ◌∙◌, arith}
-use Rattle.call.specs.Figures.{figures, slot_of}
-use Rattle.memory.specs.Entries.{empty}
-use Rattle.memory.specs.Owners.{seat, is_registered}
+use Rattle.std.proofs.Common.{get_or, None, ap, ◌∙◌, arith}
+use Rattle.call.specs.Figures.{figures}
+use Rattle.memory.specs.Owners.{seat}
 use Rattle.memory.specs.Views.{view}
 use Rattle.memory.proofs.Loads.{settled_idle}
 use Rattle.memory.proofs.Stores.{claim_steps, taken_idle_after}

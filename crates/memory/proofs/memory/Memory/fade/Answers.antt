@@ -1,7 +1,7 @@
 use Rattle.std.proofs.Common.{refl, ap, ◌∙◌}
 use Rattle.call.specs.Figures.{figures}
 use Rattle.rules.specs.Effects.{tally, dropped}
-use Rattle.memory.specs.Views.{view, copies_of}
+use Rattle.memory.specs.Views.{copies_of}
 use Rattle.memory.proofs.Fades.{faded_sound, faded_memory}
 use Rattle.memory.proofs.Views.{slots_most, cores_most}
 use Rattle.memory.proofs.Walks.{walked_all}

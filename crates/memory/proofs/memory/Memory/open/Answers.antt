@@ -1,4 +1,4 @@
-use Rattle.std.proofs.Common.{ℕ, List, refl, ap, ◌∙◌}
+use Rattle.std.proofs.Common.{ℕ, refl, ap, ◌∙◌}
 use Rattle.call.specs.Figures.{figures}
 use Rattle.rules.specs.State.{opened}
 use Rattle.memory.proofs.Opens.{open_sound, opened_view}

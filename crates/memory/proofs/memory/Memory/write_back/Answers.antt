@@ -1,4 +1,4 @@
-use Rattle.std.proofs.Common.{sym, ap, ◌∙◌}
+use Rattle.std.proofs.Common.{ap, ◌∙◌}
 use Rattle.call.specs.Figures.{figures}
 use Rattle.memory.specs.Entries.{is_written}
 use Rattle.memory.proofs.Views.{settled_after, settle_writes}

@@ -1,4 +1,4 @@
-use Rattle.std.proofs.Common.{length, get_or, None, refl, ap, ◌∙◌}
+use Rattle.std.proofs.Common.{refl}
 use Rattle.page.proofs.Slots.{empty_full, empty_lies, laid_empty}
 use Rattle.page.proofs.bank.Bank.new.Goals as goal
 

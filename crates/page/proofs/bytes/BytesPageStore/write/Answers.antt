@@ -1,4 +1,4 @@
-use Rattle.std.proofs.Common.{◌≡◌, ◌+◌, ◌-◌, ap, ◌∙◌, arith, rules}
+use Rattle.std.proofs.Common.{◌+◌, ◌-◌, ap, ◌∙◌, arith, rules}
 use Rattle.page.specs.ByteWords.{byte_words}
 use Rattle.page.proofs.ByteWords.{length_words, words_after, bytes_inside, bytes_outside}
 use Rattle.page.proofs.bytes.BytesPageStore.write.Goals as goal

@@ -1,6 +1,5 @@
-use Rattle.std.proofs.Common.{◌≡◌, ℕ, ◌<◌, true, List, length, sym, ap, subst, arith, rules}
-use lib.ListN.{length-replicate}
-use Rattle.races.specs.Stamps.{unseen, seen_at, up_to}
+use Rattle.std.proofs.Common.{◌≡◌, ◌<◌, true, List, sym, subst, arith, rules}
+use Rattle.races.specs.Stamps.{seen_at, up_to}
 use Rattle.races.specs.declared.seen.Seen.{Seen}
 use Rattle.races.proofs.Empty.{unseen_at, blank_up_to, forgotten}
 use Rattle.races.proofs.races.Races.new.Goals as goal

@@ -1,4 +1,4 @@
-use Rattle.std.proofs.Common.{ap, ◌∙◌, arith, length-set, rules}
+use Rattle.std.proofs.Common.{ap, ◌∙◌, arith, length-set}
 use Rattle.races.specs.Remembered.{noted_in}
 use Rattle.races.specs.declared.seen.Seen.{Seen}
 use Rattle.races.proofs.Notes.{tells_past, tells_entered, noted_stamp, entered_up_to}

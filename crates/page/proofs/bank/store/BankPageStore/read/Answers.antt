@@ -1,4 +1,4 @@
-use Rattle.std.proofs.Common.{refl, ap, ◌∙◌, arith}
+use Rattle.std.proofs.Common.{refl, ◌∙◌, arith}
 use Rattle.page.specs.Pages.{read_answer}
 use Rattle.page.specs.Slots.{laid}
 use Rattle.page.proofs.BankCalls.{read_outside, read_held, read_through, laid_same}

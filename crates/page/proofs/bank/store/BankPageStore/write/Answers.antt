@@ -1,4 +1,4 @@
-use Rattle.std.proofs.Common.{refl, ap, ◌∙◌, arith}
+use Rattle.std.proofs.Common.{arith}
 use Rattle.page.proofs.BankCalls.{write_inside, write_outside, laid_inside, laid_outside, slots_inside, slots_outside, below_inside, below_outside}
 use Rattle.page.proofs.bank.store.BankPageStore.write.Goals as goal
 
