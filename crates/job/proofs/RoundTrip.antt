@@ -6,7 +6,7 @@ use Rattle.std.proofs.ByRecursion.{All-take, All-drop}
 use Rattle.std.proofs.lemmas.List.{take-append-drop, length-take-le, length-drop, nil_from_length}
 use Rattle.std.specs.Option.{option_to_list}
 use Rattle.std.specs.Int.Digits.{AllBelowBase}
-use Rattle.std.specs.List.{flat_map, AllByRecursion as All}
+use Rattle.std.specs.List.{flat_map, AllByRecursion}
 use Rattle.call.specs.Figures.{five, figures}
 use Rattle.call.specs.declared.figures.Figures.{Figures}
 use Rattle.call.specs.declared.call.Call.{Call}
@@ -27,7 +27,7 @@ length_body [] = refl
 length_body (c ∷ cs) = let rest = length_body cs in omega arith
 
 -- the records of lawful calls spell them, and none is against its layout
-body_spells : (cs : List Call) (place : ℕ) → All LawfulCall cs → (records_fault (length cs) place (flat_map record_bytes cs) ≡ None) × (calls (length cs) (flat_map record_bytes cs) ≡ cs)
+body_spells : (cs : List Call) (place : ℕ) → AllByRecursion LawfulCall cs → (records_fault (length cs) place (flat_map record_bytes cs) ≡ None) × (calls (length cs) (flat_map record_bytes cs) ≡ cs)
 body_spells [] place h = (refl, refl)
 body_spells (c ∷ cs) place h =
     let rest = body_spells cs (place + 13) h.1 in

@@ -1,6 +1,6 @@
 //! The encoder: from figures and calls to the bytes of a job.
 ghost use Rattle.std.specs.Prelude.{◌≡◌, ◌+◌, ◌*◌, ◌≤◌, true, ◌++◌, length, take, drop, if◌then◌else◌, Some, None, Ok, OnSome};
-ghost use Rattle.std.specs.List.{flat_map, AllByRecursion as All};
+ghost use Rattle.std.specs.List.{flat_map, AllByRecursion};
 ghost use Rattle.call.specs.Calls.{caller_of, kind_of, letter_of};
 ghost use Rattle.call.specs.Figures.{figures as numbers_of};
 ghost use Rattle.job.specs.Encoding.{lock_of, word_of, payload_of, record_bytes, contents, by_lawful_core, all_lawful, encodable};
@@ -81,7 +81,7 @@ fn by_lawful_core(call: Call) -> bool
 // The same of every call.
 fn all_lawful(calls: &[Call]) -> bool
     ensures value { result ≡ all_lawful calls.now }
-    ensures lawful { result ≡ true → All LawfulCall calls.now }
+    ensures lawful { result ≡ true → AllByRecursion LawfulCall calls.now }
 {
     for call in calls {
         if !by_lawful_core(*call) {
@@ -106,7 +106,7 @@ fn write_records(calls: &[Call], out: &mut [u8])
 fn write_job(figures: &Figures, calls: &[Call], out: &mut [u8])
     requires { (length calls.now ≤ 4608) × (16 + 13 * length calls.now ≤ length out.old) }
     ensures after { out.new ≡ encoding (numbers_of figures.now) calls.now ++ drop (16 + 13 * length calls.now) out.old }
-    ensures reads { All LawfulCall calls.now → reading (encoding (numbers_of figures.now) calls.now) ≡ Ok (says (numbers_of figures.now) calls.now) }
+    ensures reads { AllByRecursion LawfulCall calls.now → reading (encoding (numbers_of figures.now) calls.now) ≡ Ok (says (numbers_of figures.now) calls.now) }
 {
     write_records(calls, out);
     out[0..16].copy_from_slice(&contents_of(figures, calls.len() as u32));

@@ -2,7 +2,7 @@ use Rattle.std.proofs.Common.{true, false, sym, refl, ◌∙◌, subst}
 use Rattle.std.proofs.ByRecursion.{All-more}
 use Rattle.std.proofs.lemmas.List.{at_drop_all, take_all}
 use Rattle.std.proofs.lemmas.Bool.{both_ways}
-use Rattle.std.specs.List.{AllByRecursion as All}
+use Rattle.std.specs.List.{AllByRecursion}
 use Rattle.job.specs.Encoding.{all_lawful, LawfulCall}
 use Rattle.job.proofs.Writing.{lawful_step}
 use Rattle.job.proofs.encoder.all_lawful.Goals as goal
@@ -24,5 +24,5 @@ pub returns : goal.returns
 returns c =
     record {
       value = sym (at_drop_all all_lawful c.args.calls.now c.loop-call.call-index c.loop-call-test.false) ∙ c.loop-call.invariant.0;
-      lawful = λ h. subst (All LawfulCall) (take_all c.loop-call.call-index c.args.calls.now c.loop-call-test.false) c.loop-call.invariant.1;
+      lawful = λ h. subst (AllByRecursion LawfulCall) (take_all c.loop-call.call-index c.args.calls.now c.loop-call-test.false) c.loop-call.invariant.1;
     }
