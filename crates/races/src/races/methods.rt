@@ -98,3 +98,40 @@ impl Races {
         }
     }
 }
+
+// Examples: whom a race would name, a new phase, and a word past the table.
+#[cfg(test)]
+mod tests {
+    use super::*;
+
+    // Core 3 loads word 7 before core 5: to core 3 the earliest other loader is 5, to every other core 3.
+    #[test]
+    fn first_loaders(rt: HostRuntime) {
+        let mut races = Races::new();
+        races.note(Access::Load, 3, 7);
+        races.note(Access::Load, 5, 7);
+        races.note(Access::Load, 6, 7);
+        assert!(rt; races.by_another(Access::Load, 3, 7) == Some(5));
+        assert!(rt; races.by_another(Access::Load, 6, 7) == Some(3));
+        assert!(rt; races.by_another(Access::Store, 6, 7) == None);
+    }
+
+    // A new phase remembers nothing of the one before, and notes anew.
+    #[test]
+    fn forgotten(rt: HostRuntime) {
+        let mut races = Races::new();
+        races.note(Access::Store, 1, 4_095);
+        assert!(rt; races.by_another(Access::Store, 0, 4_095) == Some(1));
+        races.forget();
+        assert!(rt; races.by_another(Access::Store, 0, 4_095) == None);
+        races.note(Access::Store, 2, 4_095);
+        assert!(rt; races.by_another(Access::Store, 0, 4_095) == Some(2));
+    }
+
+    #[test]
+    fn past_the_table(rt: HostRuntime) {
+        let mut races = Races::new();
+        races.note(Access::Store, 1, 4_096);
+        assert!(rt; races.by_another(Access::Store, 0, 4_096) == None);
+    }
+}
