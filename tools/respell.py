@@ -35,6 +35,8 @@ BINDER = re.compile(r"[({]([^(){}:=]+) : ")
 LOCAL = re.compile(r"\blet ([^\s:=(){}]+)")
 LAMBDA = re.compile(r"λ ((?:[^\s(){}.:]+ )*[^\s(){}.:]+)\.")
 CASE = re.compile(r"^[ \t]*(?:pub )?\| ([^\s(){}:,.;«»\"|]+)", re.M)
+LEFT = re.compile(r"^[ \t]*((?:[^\s=:;,.{]+ )+)=(?: |$)", re.M)
+OF_STD = re.compile(r"^[ \t]*(?:ghost )?(?:pub )?use Rattle\.std\.[^\n{]*\{([^}\n]*)\}", re.M)
 ALIAS = re.compile(r"^[ \t]*(?:ghost )?(?:pub )?use .*$", re.M)
 AS = re.compile(r" as ([^\s(){}:,.;«»\"|]+)")
 WORD = re.compile(r"[^\s(){}\[\].,;:«»\"`|λ/*+]+")
@@ -73,6 +75,9 @@ def defined():
         for pattern in (BINDER, LAMBDA):
             for m in pattern.finditer(t):
                 found.update(m.group(1).split())
+        if not is_answer(p):
+            for m in LEFT.finditer(t):
+                found.update(WORD.findall(m.group(1)))
         names.update(n for n in found if dashed(n) and not (is_answer(p) and MADE.match(n)))
     for p in list(files()) + sorted(glob.glob("crates/*/src/**/*.rt", recursive=True)):
         with open(p, encoding="utf-8") as f:
@@ -142,9 +147,13 @@ def main():
         if len(ns) > 1:
             print(f"fall together: {' '.join(sorted(ns))} -> {to}")
     turned = 0
+    every = names
     for p, comment in texts.items():
         with open(p, encoding="utf-8") as f:
             old = f.read()
+        # What a file takes from the library under its own name stays.
+        std = {w.strip() for m in OF_STD.finditer(old) for w in m.group(1).split(",")}
+        names = {n: to for n, to in every.items() if n not in std}
         code = old if comment in (None, "ticks") else "\n".join(re.split(comment, line)[0] for line in old.split("\n"))
         words = set(WORD.findall(code))
         for n, to in sorted(names.items()):
@@ -161,7 +170,7 @@ def main():
             if not dry:
                 with open(p, "w", encoding="utf-8") as f:
                     f.write(new)
-    print(f"respell: {len(names)} names, {turned} files")
+    print(f"respell: {len(every)} names, {turned} files")
 
 
 if __name__ == "__main__":

@@ -84,11 +84,11 @@ taken_idle (Some d) f es w at inside idle =
 
 -- the same after a write back, by what each step leaves
 pub taken_idle_after : (f g h : Five) (es ea et : List Entry) (o : Option ℕ) (c w slot : ℕ) → g ≡ f → h ≡ g → slot ≡ slot_of f w → seat c slot < length es → seat c slot < length ea → ea ≡ set es (seat c slot) (turned (get_or es (seat c slot) empty) Settle) → et ≡ taken_by o g ea w → is_registered (get_or et (seat c (slot_of h w)) empty).state ≡ false
-taken_idle_after f g h es ea et o c w slot gf hg sf in_e in-a ae te =
+taken_idle_after f g h es ea et o c w slot gf hg sf in_e in_a ae te =
     let sh : slot_of h w ≡ slot = ap (λ (k : Five). slot_of k w) (hg ∙ gf) ∙ sym sf in
     ap (λ (k : ℕ). is_registered (get_or et (seat c k) empty).state) sh
     ∙ (ap (λ (l : List Entry). is_registered (get_or l (seat c slot) empty).state) te
-    ∙ taken_idle o g ea w (seat c slot) in-a (settled_idle es ea (seat c slot) in_e ae))
+    ∙ taken_idle o g ea w (seat c slot) in_a (settled_idle es ea (seat c slot) in_e ae))
 
 module _ (f : Five) (ps : List Word) (es : List Entry) (os : List (Option ℕ)) (c w : ℕ) (x : Word) (few : slot_of f w < 64) (c8 : c < 8) (long : length es ≡ 512) (fits : w < length os) (owned : Owned f es os) (idle : is_registered (get_or es (seat c (slot_of f w)) empty).state ≡ false) where
   -- the lists of a claim
@@ -209,6 +209,6 @@ cleared ps es os c i inside few fits =
 
 -- the same, of the lists that a turn leaves
 pub cleared_after : (f : Five) (ps ps' : List Word) (es es' : List Entry) (os os' : List (Option ℕ)) (c i : ℕ) → Sound f es os → c < 8 → i < 64 → ps' ≡ page_after (done_by (get_or es (seat c i) empty).state Evict) (get_or es (seat c i) empty) ps → es' ≡ set es (seat c i) (turned (get_or es (seat c i) empty) Evict) → os' ≡ owners_after (done_by (get_or es (seat c i) empty).state Evict) (get_or es (seat c i) empty) os → memory_of ps' es' os' ≡ with_copy (write_back (memory_of ps es os) c i) c i invalid
-cleared_after f ps ps' es es' os os' c i s few-c few-i a b d =
+cleared_after f ps ps' es es' os os' c i s few_c few_i a b d =
     same_memory _ _ _ _ _ _ a (ap copies_of b) (ap owners_of d)
-    ∙ cleared ps es os c i (omega (arith, s.caches)) few-i (omega (arith, s.words, ltb-true (get_or es (seat c i) empty).place 4096 (s.placed (seat c i))))
+    ∙ cleared ps es os c i (omega (arith, s.caches)) few_i (omega (arith, s.words, ltb-true (get_or es (seat c i) empty).place 4096 (s.placed (seat c i))))

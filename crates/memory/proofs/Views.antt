@@ -86,9 +86,9 @@ settled ps es os c i inside few fits =
 
 -- the same, of the lists that a turn leaves
 pub settled_after : (f : Five) (ps ps' : List Word) (es es' : List Entry) (os os' : List (Option ℕ)) (c i : ℕ) → Sound f es os → c < 8 → i < 64 → ps' ≡ page_after (done_by (get_or es (seat c i) empty).state Settle) (get_or es (seat c i) empty) ps → es' ≡ set es (seat c i) (turned (get_or es (seat c i) empty) Settle) → os' ≡ owners_after (done_by (get_or es (seat c i) empty).state Settle) (get_or es (seat c i) empty) os → memory_of ps' es' os' ≡ write_back (memory_of ps es os) c i
-settled_after f ps ps' es es' os os' c i s few-c few-i a b d =
+settled_after f ps ps' es es' os os' c i s few_c few_i a b d =
     same_memory _ _ _ _ _ _ a (ap copies_of b) (ap owners_of d)
-    ∙ settled ps es os c i (omega (arith, s.caches)) few-i (omega (arith, s.words, ltb-true (get_or es (seat c i) empty).place 4096 (s.placed (seat c i))))
+    ∙ settled ps es os c i (omega (arith, s.caches)) few_i (omega (arith, s.words, ltb-true (get_or es (seat c i) empty).place 4096 (s.placed (seat c i))))
 
 pub settle_writes : (s : State) → is_written (done_by s Settle) ≡ is_registered s
 settle_writes Invalid = refl

@@ -109,8 +109,8 @@ made_way_shows (Some change) k below j h ne = ⊎_elim here apart (cases_eq chan
         ∙ sym (shown_apart change j (get_or below j blank_word) (λ q. ne (sym q ∙ e)))
 
     apart : (change.place ≡ k → ⊥) → get_or (made_way (Some change) k below) j blank_word ≡ shown (Some change) j (get_or below j blank_word)
-    apart no-k =
-        ap (λ (ws : List Word). get_or ws j blank_word) (cond-false (eqb change.place k) below _ (ne_eqb _ _ no-k))
+    apart no_k =
+        ap (λ (ws : List Word). get_or ws j blank_word) (cond-false (eqb change.place k) below _ (ne_eqb _ _ no_k))
         ∙ flushed_shows (Some change) below j h
 
 -- and at a place that lies in another slot

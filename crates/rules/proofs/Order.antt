@@ -173,11 +173,11 @@ before_ok h ok p =
 
 -- a core that holds a lock where it has made the same calls: the same cores have released the lock before
 pub same_releasers : (r q : Ran) → SameOrder r q → (c lock : ℕ) → lock < 8 → (X : Spot r.history) (Y : Spot q.history) → calls_of c X.before ≡ calls_of c Y.before → ((ledger_of X.before).locks lock).holder ≡ Some c → ((ledger_of Y.before).locks lock).holder ≡ Some c → releasers lock X.before ≡ releasers lock Y.before
-same_releasers r q order c lock below X Y place holds-x holds-y =
+same_releasers r q order c lock below X Y place holds_x holds_y =
     let ok_r = legal r order.all_accepted in
     let ok_q = legal q order.others_accepted in
-    let one = holders_begin (setting r.figures r.page) r.history ok_r lock c X.before (X.event ∷ X.after) X.stands holds-x in
-    let two = holders_begin (setting q.figures q.page) q.history ok_q lock c Y.before (Y.event ∷ Y.after) Y.stands holds-y in
+    let one = holders_begin (setting r.figures r.page) r.history ok_r lock c X.before (X.event ∷ X.after) X.stands holds_x in
+    let two = holders_begin (setting q.figures q.page) q.history ok_q lock c Y.before (Y.event ∷ Y.after) Y.stands holds_y in
     same_beginning c (releasers lock X.before) (releasers lock Y.before) one.0 two.0
     (sym one.1 ∙ (order.holders lock below ∙ two.1))
     (releases_own c lock X.before (before_ok r.history ok_r.accepts X)

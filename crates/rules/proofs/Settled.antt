@@ -69,16 +69,16 @@ same_store (Some s) (Some t) old x a b p q =
     λ i. Some (record { core = parts.0 i; count = parts.1 i; value = (sym p.0 ∙ q.0) i })
 
 pub settled_pages : (r q : Ran) → SettledPages r q
-settled_pages r q alike settled-r settled-q w inside = (
+settled_pages r q alike settled_r settled_q w inside = (
   (λ e. same_store (last_store w r.history) (last_store w q.history) (old_word q w) (page_word q.final.memory w) one.lawful two.lawful (subst (λ (x : Word). Fresh (last_store w r.history) (old_word q w) x) e shifted) two.fresh),
   (λ e. fresh_same (last_store w q.history) (old_word q w) (page_word r.final.memory w) (page_word q.final.memory w) (subst (λ (o : Option ToldStore). Fresh o (old_word q w) (page_word r.final.memory w)) e shifted) two.fresh),
 )
   where
     one : PageTold r w
-    one = settled_page r settled-r w inside
+    one = settled_page r settled_r w inside
 
     two : PageTold q w
-    two = settled_page q settled-q w (rw (sym alike.sizes) inside)
+    two = settled_page q settled_q w (rw (sym alike.sizes) inside)
 
     shifted : Fresh (last_store w r.history) (old_word q w) (page_word r.final.memory w)
     shifted = fresh_alike (last_store w r.history) (old_word r w) (old_word q w) (page_word r.final.memory w) (alike.values w inside) one.fresh

@@ -38,7 +38,7 @@ abbrev pub Says : Case → Type 0
 Says (answers f calls expected) = map answer_told (played f calls).answers ≡ expected
 Says (owns f calls n) = owned (setting f (zero_page f)) (played f calls).state.memory ≡ n
 Says (marks n yes_or_no) = lawful n ≡ yes_or_no
-Says (blooms ws n w in-or-not) = (fill (with_words ws) 0 ≡ n) × (words_of_bits (with_words ws) 0 w ≡ in-or-not)
+Says (blooms ws n w in_or_not) = (fill (with_words ws) 0 ≡ n) × (words_of_bits (with_words ws) 0 w ≡ in_or_not)
 Says (figures f n) = refusal_number (checked f) ≡ n
 
 abbrev pub AllSay : List Case → Type 0
