@@ -1,9 +1,9 @@
 -- What each case tells, its number and its values: of a refusal, of an answer and of a fault. Every promise about an
 -- answer, and every line that is printed, goes by these. Assumes nothing.
-use Rattle.std.specs.Prelude.{ℕ}
+use Rattle.std.specs.Prelude.{ℕ, Ok, Err, Result}
 use Rattle.word.specs.Marks.{number}
 use Rattle.call.specs.declared.answer.Answer.{Answer}
-use Rattle.call.specs.declared.answer.Answer.TheVariants.{Loaded, Stored, Done, Refused}
+use Rattle.call.specs.declared.answer.Answer.TheVariants.{Loaded, Stored, Done}
 use Rattle.call.specs.declared.answer.Told.{Told}
 use Rattle.call.specs.declared.fault.FaultTold.{FaultTold}
 use Rattle.call.specs.declared.fault.FigureFault.{FigureFault}
@@ -39,12 +39,16 @@ refusal_told BadMode = told 11 0 0 0
 refusal_told LockHeld = told 12 0 0 0
 refusal_told Owned = told 13 0 0 0
 
--- of an answer: 0 for accepted, then its source, answer or number, the word's value and the mark
-abbrev pub answer_told : Answer → Told
-answer_told (Loaded word source) = told 0 source word.value (number word.mark)
-answer_told (Stored answer mark) = told 0 answer 0 (number mark)
-answer_told (Done small) = told 0 small 0 0
-answer_told (Refused refusal) = refusal_told refusal
+-- of an accepted call: 0 for accepted, then its source, answer or number, the word's value and the mark
+abbrev pub given_told : Answer → Told
+given_told (Loaded word source) = told 0 source word.value (number word.mark)
+given_told (Stored answer mark) = told 0 answer 0 (number mark)
+given_told (Done small) = told 0 small 0 0
+
+-- of a call's answer, accepted or refused
+abbrev pub answer_told : Result Answer Refusal → Told
+answer_told (Ok answer) = given_told answer
+answer_told (Err refusal) = refusal_told refusal
 
 -- the number of a broken row of the figures
 abbrev pub figure_number : FigureFault → ℕ

@@ -1,13 +1,13 @@
 //! What a call answers, and the record of it that a run keeps.
 ghost use Rattle.std.specs.Prelude.{◌≡◌};
 ghost use Rattle.call.specs.Calls.{caller_of, kind_of};
-ghost use Rattle.call.specs.Told.{told, answer_told, refusal_told};
+ghost use Rattle.call.specs.Told.{told, answer_told, given_told, refusal_told};
 
 use crate::call::{Call, Kind};
 use crate::refusal::{Access, Refusal};
 use word::{Mark, Word};
 
-/// What a call answers: accepted with its values, or refused with them.
+/// What an accepted call answers. A call answers this or, if it is refused, why.
 #[derive(Clone, Copy, PartialEq, Eq, Debug)]
 pub enum Answer {
     /// A load: the word, and its source, 0 the core's own copy, 1 the page, 2 the owner's copy.
@@ -16,8 +16,6 @@ pub enum Answer {
     Stored(u8, Mark),
     /// Any other call: its answer or number.
     Done(u16),
-    /// The call is refused.
-    Refused(Refusal),
 }
 
 /// What an answer tells in numbers: the refusal's number, 0 if accepted; the source, answer or number; the value; the
@@ -30,12 +28,12 @@ pub struct Told {
     pub mark: u32,
 }
 
-/// One line of a run: who called, what kind of call, and its answer.
+/// One line of a run: who called, what kind of call, and its answer or why it was refused.
 #[derive(Clone, Copy, PartialEq, Eq, Debug)]
 pub struct AnswerRecord {
     pub caller: u8,
     pub kind: Kind,
-    pub answer: Answer,
+    pub answer: Result<Answer, Refusal>,
 }
 
 // The four numbers that an answer tells.
@@ -50,12 +48,14 @@ fn tells(refusal: u8, small: u16, value: u32, mark: u32) -> Told
     }
 }
 
-impl Refusal {
-    /// The refusal's number and values.
-    pub fn told(self) -> Told
-        ensures { result ≡ refusal_told self }
+/// The refusal's number and values.
+impl From<Refusal> for Told {
+    ghost from_gives = { λ r t. t ≡ refusal_told r };
+
+    fn from(refusal: Refusal) -> Told
+        ensures { result ≡ refusal_told refusal }
     {
-        match self {
+        match refusal {
             Refusal::NoCore => tells(1, 0, 0, 0),
             Refusal::OutsideBoard => tells(2, 0, 0, 0),
             Refusal::Waiting => tells(3, 0, 0, 0),
@@ -74,23 +74,38 @@ impl Refusal {
     }
 }
 
-impl Answer {
-    /// The answer's number and values.
-    pub fn told(self) -> Told
-        ensures { result ≡ answer_told self }
+/// The values of an accepted call, with 0 for the refusal's number.
+impl From<Answer> for Told {
+    ghost from_gives = { λ a t. t ≡ given_told a };
+
+    fn from(answer: Answer) -> Told
+        ensures { result ≡ given_told answer }
     {
-        match self {
+        match answer {
             Answer::Loaded(word, source) => tells(0, source as u16, word.value, word.mark.number()),
             Answer::Stored(answer, mark) => tells(0, answer as u16, 0, mark.number()),
             Answer::Done(small) => tells(0, small, 0, 0),
-            Answer::Refused(refusal) => refusal.told(),
+        }
+    }
+}
+
+/// The number and values of a call's answer, accepted or refused.
+impl From<Result<Answer, Refusal>> for Told {
+    ghost from_gives = { λ a t. t ≡ answer_told a };
+
+    fn from(answer: Result<Answer, Refusal>) -> Told
+        ensures { result ≡ answer_told answer }
+    {
+        match answer {
+            Ok(answer) => Told::from(answer),
+            Err(refusal) => Told::from(refusal),
         }
     }
 }
 
 impl AnswerRecord {
     /// The record of a call and its answer.
-    pub fn of(call: Call, answer: Answer) -> AnswerRecord
+    pub fn of(call: Call, answer: Result<Answer, Refusal>) -> AnswerRecord
         ensures { result ≡ record { caller = caller_of call; kind = kind_of call; answer = answer } }
     {
         AnswerRecord {

@@ -57,13 +57,12 @@ impl Call {
         ensures { result ≡ caller_of self }
     {
         match self {
-            Call::Load(core, _) => core,
-            Call::Store(core, _, _) => core,
-            Call::Evict(core, _) => core,
-            Call::Acquire(core, _) => core,
-            Call::Release(core, _) => core,
-            Call::Phase(_) => 8,
-            Call::Settle => 8,
+            Call::Load(core, _)
+            | Call::Store(core, _, _)
+            | Call::Evict(core, _)
+            | Call::Acquire(core, _)
+            | Call::Release(core, _) => core,
+            Call::Phase(_) | Call::Settle => 8,
         }
     }
 

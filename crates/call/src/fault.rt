@@ -3,19 +3,19 @@ ghost use Rattle.std.specs.Prelude.{◌≡◌};
 ghost use Rattle.call.specs.Told.{figure_number, figure_place, fault, fault_told};
 ghost use Rattle.call.specs.declared.fault.JobFault.TheVariants.{Figures};
 
-/// The first of the five figures that breaks its row.
+/// The first of the five figures that breaks its row, by the row's number.
 #[derive(Clone, Copy, PartialEq, Eq, Debug)]
 pub enum FigureFault {
     /// No core, or more than 8.
-    Cores,
+    Cores = 14,
     /// No slot, or more than 64.
-    Slots,
+    Slots = 15,
     /// No word, or more than 4,096.
-    Words,
+    Words = 16,
     /// A strip of no word or more than 4,096, or more words than sixteen strips hold.
-    Strip,
+    Strip = 17,
     /// No store allowed, or more than 1,000,000.
-    Allowance,
+    Allowance = 18,
 }
 
 /// What is wrong with a job, the first fault in the order of the checks.
@@ -60,13 +60,7 @@ impl FigureFault {
     pub fn number(self) -> u8
         ensures { result ≡ figure_number self }
     {
-        match self {
-            FigureFault::Cores => 14,
-            FigureFault::Slots => 15,
-            FigureFault::Words => 16,
-            FigureFault::Strip => 17,
-            FigureFault::Allowance => 18,
-        }
+        self as u8
     }
 
     /// The byte of a job at which the figure stands.
@@ -83,12 +77,14 @@ impl FigureFault {
     }
 }
 
-impl JobFault {
-    /// The fault's number, its place and the number inside.
-    pub fn told(self) -> FaultTold
-        ensures { result ≡ fault_told self }
+/// The fault's number, its place and the number inside.
+impl From<JobFault> for FaultTold {
+    ghost from_gives = { λ e r. r ≡ fault_told e };
+
+    fn from(fault: JobFault) -> FaultTold
+        ensures { result ≡ fault_told fault }
     {
-        match self {
+        match fault {
             JobFault::Short(length) => at(19, length as u16, 0),
             JobFault::Figures(row) => at(20, row.place(), row.number()),
             JobFault::Reserved => at(21, 6, 0),

@@ -47,40 +47,35 @@ impl Figures {
     pub fn cores(&self) -> u8
         ensures { result ≡ (figures self.now).cores }
     {
-        let cores = self.cores;
-        cores
+        self.cores
     }
 
     /// How many slots each core's cache has.
     pub fn slots(&self) -> u8
         ensures { result ≡ (figures self.now).slots }
     {
-        let slots = self.slots;
-        slots
+        self.slots
     }
 
     /// How many words of the page the board uses at the most.
     pub fn words(&self) -> u16
         ensures { result ≡ (figures self.now).words }
     {
-        let words = self.words;
-        words
+        self.words
     }
 
     /// How many words make a strip.
     pub fn strip(&self) -> u16
         ensures { result ≡ (figures self.now).strip }
     {
-        let strip = self.strip;
-        strip
+        self.strip
     }
 
     /// How many stores each core may make.
     pub fn allowance(&self) -> u32
         ensures { result ≡ (figures self.now).allowance }
     {
-        let allowance = self.allowance;
-        allowance
+        self.allowance
     }
 
     /// The strip of a word: the only place where it is computed.
@@ -128,9 +123,6 @@ mod tests {
         strip: u16,
         allowance: u32,
     ) -> Option<FigureFault> {
-        match Figures::check(cores, slots, words, strip, allowance) {
-            Ok(_) => None,
-            Err(fault) => Some(fault),
-        }
+        Figures::check(cores, slots, words, strip, allowance).err()
     }
 }
