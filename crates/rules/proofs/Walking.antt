@@ -1,11 +1,10 @@
 -- Along a run the invariant holds at every moment, the ledger is the one that the history tells, and the words that the
 -- invariant speaks of are the history's: the last store to each place, or the opening word. One walk from the opening to
 -- any moment serves all laws. Assumes nothing.
-use Rattle.std.proofs.Common.{◌≡◌, ℕ, ◌+◌, ◌<◌, ◌≤◌, Bool, true, false, cond, not, eqb, List, [], ◌∷◌, ◌++◌, is_some, Some, None, fold, Option, sym, refl, ap, ◌∙◌, subst, ⊎_elim, append_assoc, arith}
+use Rattle.std.proofs.Common.{◌≡◌, ℕ, ◌+◌, ◌<◌, ◌≤◌, Bool, true, false, cond, not, eqb, List, [], ◌∷◌, ◌++◌, is_some, Some, None, fold, Option, sym, refl, ap, ◌∙◌, subst, ⊎_elim, append_assoc, arith, Err, Result, Ok}
 use Rattle.std.proofs.lemmas.List.{append-nil}
 use Rattle.std.proofs.lemmas.Bool.{eqb-true, eqb-false, cond-true}
 use Rattle.call.specs.declared.answer.Answer.{Answer}
-use Rattle.call.specs.declared.answer.Answer.TheVariants.{Refused}
 use Rattle.call.specs.declared.call.Call.{Call}
 use Rattle.call.specs.declared.call.Call.TheVariants as call
 use Rattle.call.specs.declared.refusal.Refusal.{Refusal}
@@ -33,19 +32,9 @@ folded_push f b (y ∷ xs) x = folded_push f (f b y) xs x
 pub same_some : {X : Type 0} (x y : X) → Some x ≡ Some y → x ≡ y
 same_some x y e = cc
 
--- an accepted call's answer is no refusal
-pub answered_accepted : (b : Setting) (g : Sets) (s : State) (c : Call) → refused_with (answered b g s c).answer ≡ None
-answered_accepted b g s (call.Load core word) = refl
-answered_accepted b g s (call.Store core word value) = refl
-answered_accepted b g s (call.Evict core word) = refl
-answered_accepted b g s (call.Acquire core lock) = refl
-answered_accepted b g s (call.Release core lock) = refl
-answered_accepted b g s (call.Phase plan) = refl
-answered_accepted b g s call.Settle = refl
-
 -- what an event tells of its projections
-pub of_refused : {X : Type 0} (project : Call → Option X) (e : Event) (r : Refusal) → e.answer ≡ Refused r → of_accepted project e ≡ None
-of_refused project e r h = ap (λ (a : Answer). of_accepted project (record { call = e.call; answer = a })) h
+pub of_refused : {X : Type 0} (project : Call → Option X) (e : Event) (r : Refusal) → e.answer ≡ Err r → of_accepted project e ≡ None
+of_refused project e r h = ap (λ (a : Result Answer Refusal). of_accepted project (record { call = e.call; answer = a })) h
 
 pub of_unrefused : {X : Type 0} (project : Call → Option X) (e : Event) → refused_with e.answer ≡ None → of_accepted project e ≡ project e.call
 of_unrefused project e h = cond-true (accepted e) (project e.call) None (ap (λ (o : Option Refusal). not (is_some o)) h)
@@ -73,7 +62,7 @@ module _ (b : Setting) (fits : Fits b) (old : ℕ → Word) where
     abbrev l : Ledger
     l = s.ledger
 
-    refused_moment : (r : Refusal) → e.answer ≡ Refused r → ((c w : ℕ) → g' c w ≡ g c w) → Moment (h ++ (e ∷ [])) s g'
+    refused_moment : (r : Refusal) → e.answer ≡ Err r → ((c w : ℕ) → g' c w ≡ g c w) → Moment (h ++ (e ∷ [])) s g'
     refused_moment r a same =
         record {
           now = now;
@@ -90,7 +79,7 @@ module _ (b : Setting) (fits : Fits b) (old : ℕ → Word) where
               };
           told =
               record {
-                ledger = m.told.ledger ∙ sym (folded_push entered_by _ h e ∙ ap (λ (x : Answer). entered_by (ledger_of h) (record { call = e.call; answer = x })) a);
+                ledger = m.told.ledger ∙ sym (folded_push entered_by _ h e ∙ ap (λ (x : Result Answer Refusal). entered_by (ledger_of h) (record { call = e.call; answer = x })) a);
                 counts = λ w c. ap (λ (t : Tracked). t.counts c) (unmoved w) ∙ m.told.counts w c;
                 fresh = λ w p. subst (λ (t : Tracked). Fresh t.last (old w) (now w)) (sym (unmoved w)) (m.told.fresh w p);
                 lawful = λ w t p. m.told.lawful w t (ap (λ (k : Tracked). k.last) (sym (unmoved w)) ∙ p);
@@ -186,7 +175,7 @@ module _ (b : Setting) (fits : Fits b) (old : ℕ → Word) where
                 let there : upd now word new w ≡ now w = ⊎_elim (λ r. absurd (eqb-false word w q (sym r.0))) (λ r. r.1) (upd_cases now word new w) in
                 subst (λ (x : Word). Fresh (last_store w h) (old w) x) (sym there) (m.told.fresh w p)
 
-    accepted_moment : refusal b l e.call ≡ None → e.answer ≡ (answered b g s e.call).answer → Changes (changes b.figures l e.call) g g' → Moment (h ++ (e ∷ [])) (after b g s e.call) g'
+    accepted_moment : refusal b l e.call ≡ None → e.answer ≡ Ok (answered b g s e.call).answer → Changes (changes b.figures l e.call) g g' → Moment (h ++ (e ∷ [])) (after b g s e.call) g'
     accepted_moment open_to a ch =
         record {
           now = now_after l now e.call;
@@ -195,7 +184,7 @@ module _ (b : Setting) (fits : Fits b) (old : ℕ → Word) where
         }
       where
         unrefused : refused_with e.answer ≡ None
-        unrefused = ap refused_with a ∙ answered_accepted b g s e.call
+        unrefused = ap refused_with a
 
         plain : (c : Call) → e.call ≡ c → store_of c ≡ None → Told b old now (entered l c) (h ++ (e ∷ []))
         plain c q none = subst (λ (k : Call). Told b old now (entered l k) (h ++ (e ∷ []))) q (plain_told (ap store_of q ∙ none) unrefused)

@@ -1,6 +1,6 @@
 -- Worked runs: the sample job's twelve answers; two orders of one run that meet the premises of the order law; and a copy in a
 -- locked strip that would be stale if it were not fetched again. Assumes nothing.
-use Rattle.std.specs.Prelude.{◌≡◌, List, [], ◌∷◌, map}
+use Rattle.std.specs.Prelude.{◌≡◌, List, [], ◌∷◌, map, Ok}
 use Rattle.call.specs.Told.{told, answer_told}
 use Rattle.call.specs.declared.answer.Answer.TheVariants.{Loaded, Stored, Done}
 use Rattle.call.specs.declared.call.Call.{Call}
@@ -84,10 +84,10 @@ other_order =
     ∷ Load 1 1
     ∷ []
 
--- their histories, call by call with the answers
+-- their histories, call by call with the answers, all accepted
 abbrev pub one_history : History
 one_history =
-    history_of one_order
+    history_of one_order (map Ok
     (Done 0
     ∷ Stored 1 (mark_at 1)
     ∷ Done 0
@@ -99,11 +99,11 @@ one_history =
     ∷ Done 2
     ∷ Done 3
     ∷ Loaded (record { value = 50; mark = mark_at 1 }) 1
-    ∷ [])
+    ∷ []))
 
 abbrev pub other_history : History
 other_history =
-    history_of other_order
+    history_of other_order (map Ok
     (Done 0
     ∷ Stored 1 (mark_at 1)
     ∷ Done 0
@@ -115,7 +115,7 @@ other_history =
     ∷ Done 0
     ∷ Done 3
     ∷ Loaded (record { value = 50; mark = mark_at 1 }) 1
-    ∷ [])
+    ∷ []))
 
 -- both are runs, and they meet all that the order law asks for
 abbrev pub TwoOrders : Type 0
@@ -141,4 +141,4 @@ abbrev pub OldCopyFetched : Type 0
 OldCopyFetched =
     ((played sample again).state.memory.copies 1 2 ≡ valid 6 blank_word)
     × ((step (setting sample (played sample again).state.memory.page) (bloom.holds (played sample again).signature) (played sample again).state (Load 1 6)).answer
-    ≡ Loaded (record { value = 7; mark = mark_at 1 }) 2)
+    ≡ Ok (Loaded (record { value = 7; mark = mark_at 1 }) 2))

@@ -1,10 +1,10 @@
 -- What a history tells, in the subject's words. Laws speak of calls by the projections of the first part alone.
 -- Assumes nothing.
-use Rattle.std.specs.Prelude.{◌≡◌, ℕ, ◌+◌, Bool, false, cond, not, ◌||◌, List, [], ◌∷◌, ◌++◌, length, take, is_some, Some, None, fold, Option, ◌==◌}
+use Rattle.std.specs.Prelude.{◌≡◌, ℕ, ◌+◌, Bool, false, cond, not, ◌||◌, List, [], ◌∷◌, ◌++◌, length, take, is_some, Some, None, fold, Option, ◌==◌, Ok, Err, Result}
 use Rattle.std.specs.List.{flat_map}
 use Rattle.call.specs.Calls.{caller_of}
 use Rattle.call.specs.declared.answer.Answer.{Answer}
-use Rattle.call.specs.declared.answer.Answer.TheVariants.{Loaded, Stored, Done, Refused}
+use Rattle.call.specs.declared.answer.Answer.TheVariants.{Loaded, Stored, Done}
 use Rattle.call.specs.declared.call.Call.{Call}
 use Rattle.call.specs.declared.call.Call.TheVariants as call
 use Rattle.call.specs.declared.refusal.Access.{Access}
@@ -84,11 +84,9 @@ plan_of call.Settle = None
 
 -- ── accepted and refused ──
 
-abbrev pub refused_with : Answer → Option Refusal
-refused_with (Loaded x source) = None
-refused_with (Stored answer mark) = None
-refused_with (Done small) = None
-refused_with (Refused r) = Some r
+abbrev pub refused_with : Result Answer Refusal → Option Refusal
+refused_with (Ok a) = None
+refused_with (Err r) = Some r
 
 abbrev pub accepted : Event → Bool
 accepted e = not (is_some (refused_with e.answer))
@@ -115,12 +113,12 @@ pub record LoadGiven : Type 0 where
   pub word : ℕ
   pub given : Word
 
-abbrev pub given_by : Answer → Option Wanted → Option LoadGiven
-given_by (Loaded x source) None = None
-given_by (Loaded x source) (Some w) = Some (record { core = w.core; word = w.word; given = x })
-given_by (Stored answer mark) w = None
-given_by (Done small) w = None
-given_by (Refused r) w = None
+abbrev pub given_by : Result Answer Refusal → Option Wanted → Option LoadGiven
+given_by (Ok (Loaded x source)) None = None
+given_by (Ok (Loaded x source)) (Some w) = Some (record { core = w.core; word = w.word; given = x })
+given_by (Ok (Stored answer mark)) w = None
+given_by (Ok (Done small)) w = None
+given_by (Err r) w = None
 
 abbrev pub loaded : Event → Option LoadGiven
 loaded e = given_by e.answer (load_of e.call)

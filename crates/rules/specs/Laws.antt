@@ -1,8 +1,7 @@
 -- The laws of whole runs. Each is said of histories of calls and answers, refused calls included, for runs of any length;
 -- no cache, slot or queue stands in them. Assumes nothing.
-use Rattle.std.specs.Prelude.{◌≡◌, ℕ, ◌<◌, true, false, List, [], ◌∷◌, ◌++◌, Some, slice_index_or}
+use Rattle.std.specs.Prelude.{◌≡◌, ℕ, ◌<◌, true, false, List, [], ◌∷◌, ◌++◌, Some, slice_index_or, Err}
 use Rattle.call.specs.Figures.{Five}
-use Rattle.call.specs.declared.answer.Answer.TheVariants.{Refused}
 use Rattle.call.specs.declared.call.Call.{Call}
 use Rattle.call.specs.declared.call.Call.TheVariants.{Settle}
 use Rattle.call.specs.declared.refusal.Access.{Access}
@@ -126,7 +125,7 @@ abbrev pub RacesNamed : Ran → Type 0
 RacesNamed r =
     (before : History) (e : Event) (after : History) (named : ℕ) (kind : Access)
     → r.history ≡ before ++ (e ∷ after)
-    → e.answer ≡ Refused (Race named kind)
+    → e.answer ≡ Err (Race named kind)
     → RaceNamed (this_phase before) e.call named kind
 
 -- All laws of a run, those about two runs with every other run.

@@ -1,9 +1,10 @@
 -- Whole runs: calls played one after another on a board just opened, in both readings of a step.
 -- Assumes nothing.
-use Rattle.std.specs.Prelude.{◌≡◌, ℕ, List, [], ◌∷◌, Ok}
+use Rattle.std.specs.Prelude.{◌≡◌, ℕ, List, [], ◌∷◌, Ok, Result}
 use Rattle.call.specs.Figures.{Five, checked}
 use Rattle.call.specs.declared.answer.Answer.{Answer}
 use Rattle.call.specs.declared.call.Call.{Call}
+use Rattle.call.specs.declared.refusal.Refusal.{Refusal}
 use Rattle.sets.specs.Sentences as signature
 use Rattle.sets.specs.Sentences.{Sets}
 use Rattle.word.specs.declared.word.Word.{Word}
@@ -14,11 +15,11 @@ use Rattle.rules.specs.Steps.{step, Operations, changed_by, clear_all, Changes}
 
 -- what a list of calls answers and leaves
 pub record Played (S : Type 0) : Type 0 where
-  pub answers : List Answer
+  pub answers : List (Result Answer Refusal)
   pub state : State
   pub signature : S
 
-abbrev pub answered_first : {S : Type 0} → Answer → Played S → Played S
+abbrev pub answered_first : {S : Type 0} → Result Answer Refusal → Played S → Played S
 answered_first a p = record { answers = a ∷ p.answers; state = p.state; signature = p.signature }
 
 abbrev pub play : {S : Type 0} → Operations S → Setting → State → S → List Call → Played S
@@ -42,14 +43,14 @@ pub record Lawful {S : Type 0} (ops : Operations S) : Type 0 where
 -- a call and its answer
 pub record Event : Type 0 where
   pub call : Call
-  pub answer : Answer
+  pub answer : Result Answer Refusal
 
 -- the calls made with their answers, the oldest first
 abbrev pub History : Type 0
 History = List Event
 
 -- each call with its answer
-abbrev pub history_of : List Call → List Answer → History
+abbrev pub history_of : List Call → List (Result Answer Refusal) → History
 history_of [] answers = []
 history_of (c ∷ cs) [] = []
 history_of (c ∷ cs) (a ∷ answers) = record { call = c; answer = a } ∷ history_of cs answers

@@ -1,10 +1,10 @@
 -- A call on a board: what it answers, what it leaves and what it asks of the signature. Two readings: with a signature's
 -- own operations, which decides everything, and with sets that are free within the signature's sentences.
 -- Assumes nothing.
-use Rattle.std.specs.Prelude.{◌≡◌, ℕ, ◌+◌, Bool, cond, ◌&&◌, List, [], ◌∷◌, ◌++◌, map, Some, None, fold, Option}
+use Rattle.std.specs.Prelude.{◌≡◌, ℕ, ◌+◌, Bool, cond, ◌&&◌, List, [], ◌∷◌, ◌++◌, map, Some, None, fold, Option, Ok, Err, Result}
 use Rattle.call.specs.Figures.{Five}
 use Rattle.call.specs.declared.answer.Answer.{Answer}
-use Rattle.call.specs.declared.answer.Answer.TheVariants.{Loaded, Stored, Done, Refused}
+use Rattle.call.specs.declared.answer.Answer.TheVariants.{Loaded, Stored, Done}
 use Rattle.call.specs.declared.call.Call.{Call}
 use Rattle.call.specs.declared.call.Call.TheVariants as call
 use Rattle.call.specs.declared.refusal.Access.{Access}
@@ -97,7 +97,7 @@ changes f l call.Settle = []
 
 -- ── the answer of an accepted call, and what it does to page, caches and owners ──
 
--- an answer with the memory that is left
+-- the answer of an accepted call with the memory that is left
 pub record Answered : Type 0 where
   pub answer : Answer
   pub memory : Memory
@@ -144,15 +144,15 @@ module _ (b : Setting) (sets : Sets) (s : State) where
 -- ── one call, accepted or refused ──
 
 pub record Outcome : Type 0 where
-  pub answer : Answer
+  pub answer : Result Answer Refusal
   pub state : State
   pub changes : List Change
 
 -- a refusal leaves everything as it stood
 abbrev pub outcome : Option Refusal → Setting → Sets → State → Call → Outcome
-outcome (Some r) b sets s c = record { answer = Refused r; state = s; changes = [] }
+outcome (Some r) b sets s c = record { answer = Err r; state = s; changes = [] }
 outcome None b sets s c =
-    record { answer = (answered b sets s c).answer; state = record { memory = (answered b sets s c).memory; ledger = entered s.ledger c }; changes = changes b.figures s.ledger c }
+    record { answer = Ok (answered b sets s c).answer; state = record { memory = (answered b sets s c).memory; ledger = entered s.ledger c }; changes = changes b.figures s.ledger c }
 
 abbrev pub step : Setting → Sets → State → Call → Outcome
 step b sets s c = outcome (refusal b s.ledger c) b sets s c
