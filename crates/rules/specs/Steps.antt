@@ -10,6 +10,7 @@ use Rattle.call.specs.declared.call.Call.TheVariants as call
 use Rattle.call.specs.declared.refusal.Access.{Access}
 use Rattle.call.specs.declared.refusal.Access.TheVariants.{Load, Store}
 use Rattle.call.specs.declared.refusal.Refusal.{Refusal}
+pub use Rattle.sets.specs.Operations.{Operations}
 use Rattle.sets.specs.Sentences as signature
 use Rattle.sets.specs.Sentences.{Sets}
 use Rattle.word.specs.Lawful.{mark_of}
@@ -157,13 +158,7 @@ outcome None b sets s c =
 abbrev pub step : Setting → Sets → State → Call → Outcome
 step b sets s c = outcome (refusal b s.ledger c) b sets s c
 
--- ── a signature's own operations ──
-
-pub record Operations (S : Type 0) : Type 0 where
-  pub holds : S → Sets
-  pub put : S → ℕ → ℕ → S
-  pub take_in : S → ℕ → ℕ → S
-  pub clear : S → ℕ → S
+-- ── what a signature is after changes, by its own operations ──
 
 abbrev pub changed : {S : Type 0} → Operations S → S → Change → S
 changed ops s (put core word) = ops.put s core word

@@ -3,6 +3,7 @@
 use Rattle.std.specs.Prelude.{◌≡◌, ℕ, ◌*◌, cond, ◌&&◌, replicate, nat_lt}
 use Rattle.std.proofs.Common.{◌∙◌, length-set}
 use Rattle.std.proofs.lemmas.List.{length-replicate}
+use Rattle.sets.specs.Operations.{Operations}
 use Rattle.sets.specs.Sentences.{Sets, Put, TakenIn, Cleared, Bounded}
 use Rattle.sets.specs.Rows.{in_range, first_bit, second_bit, added, bits_put, rows_taken_in, rows_cleared, words_of_bits}
 use Rattle.sets.specs.Rows as rows
@@ -52,6 +53,10 @@ taken_in s core other = cond (nat_lt core 8 && nat_lt other 8) (joined s core ot
 -- after a clear: the core's row is empty; out of range it is as it was
 abbrev pub cleared : Bloom → ℕ → Bloom
 cleared s core = cond (nat_lt core 8) (emptied s core) s
+
+-- the Bloom signature's own operations
+abbrev pub operations : Operations Bloom
+operations = record { holds = held; put = put; take_in = taken_in; clear = cleared }
 
 -- after a put the word's two bits are set, and no other
 pub put_bits : (s : Bloom) (core word d x : ℕ) → bits (put s core word) d x ≡ bits_put (bits s) core word d x

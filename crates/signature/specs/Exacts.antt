@@ -3,6 +3,7 @@
 use Rattle.std.specs.Prelude.{◌≡◌, ℕ, ◌*◌, cond, ◌&&◌, replicate, nat_lt}
 use Rattle.std.proofs.Common.{◌∙◌, length-set}
 use Rattle.std.proofs.lemmas.List.{length-replicate}
+use Rattle.sets.specs.Operations.{Operations}
 use Rattle.sets.specs.Sentences.{Sets, Put, TakenIn, Cleared, Bounded}
 use Rattle.sets.specs.Rows.{in_range, added, words_put, rows_taken_in, rows_cleared}
 use Rattle.sets.specs.Rows as rows
@@ -44,6 +45,10 @@ taken_in s core other = cond (nat_lt core 8 && nat_lt other 8) (joined s core ot
 -- after a clear: the core's row is empty; out of range it is as it was
 abbrev pub cleared : Exact → ℕ → Exact
 cleared s core = cond (nat_lt core 8) (emptied s core) s
+
+-- the exact signature's own operations
+abbrev pub operations : Operations Exact
+operations = record { holds = held; put = put; take_in = taken_in; clear = cleared }
 
 -- after a put the core's set has the word more, and no other
 pub put_holds : (s : Exact) (core word d v : ℕ) → held (put s core word) d v ≡ words_put (held s) core word d v

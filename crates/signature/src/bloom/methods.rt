@@ -3,7 +3,7 @@ ghost use Rattle.std.specs.Prelude.{◌≡◌, ℕ, ◌+◌, ◌/◌, ◌<◌, �
 ghost use Rattle.sets.specs.Fills.{bits_from, set_count, word_fill, fill as fill_of};
 ghost use Rattle.sets.specs.Rows.{added, joined as joined_rows, emptied as emptied_rows, bits_put, rows_taken_in, rows_cleared, first_bit, second_bit};
 ghost use Rattle.sets.specs.Tables.{rows_of, with_bit};
-ghost use Rattle.signature.specs.Blooms.{fresh, bits, held, with_word, joined, emptied, put as put_bloom, taken_in, cleared, bounded as is_bounded, puts as put_sentence, takes, clears_it};
+ghost use Rattle.signature.specs.Blooms.{fresh, bits, held, with_word, joined, emptied, put as put_bloom, taken_in, cleared, operations as bloom_operations, bounded as is_bounded, puts as put_sentence, takes, clears_it};
 
 use super::Bloom;
 use crate::interface::Signature;
@@ -115,13 +115,7 @@ impl Bloom {
 }
 
 impl Signature for Bloom {
-    ghost holds = { held };
-
-    ghost put_of = { put_bloom };
-
-    ghost take_in_of = { taken_in };
-
-    ghost clear_of = { cleared };
+    ghost operations = { bloom_operations };
 
     ghost bounded = { is_bounded };
 

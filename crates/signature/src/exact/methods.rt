@@ -1,7 +1,7 @@
 //! How the exact signature is made, and what it does.
 ghost use Rattle.std.specs.Prelude.{◌≡◌, ℕ, ◌<◌, false, replicate};
 ghost use Rattle.sets.specs.Rows.{added, joined as joined_rows, emptied as emptied_rows, words_put, rows_taken_in, rows_cleared};
-ghost use Rattle.signature.specs.Exacts.{fresh, held, with_word, joined, emptied, put as put_exact, taken_in, cleared, bounded as is_bounded, puts as put_sentence, takes, clears_it};
+ghost use Rattle.signature.specs.Exacts.{fresh, held, with_word, joined, emptied, put as put_exact, taken_in, cleared, operations as exact_operations, bounded as is_bounded, puts as put_sentence, takes, clears_it};
 
 use super::Exact;
 use crate::interface::Signature;
@@ -55,13 +55,7 @@ impl Exact {
 }
 
 impl Signature for Exact {
-    ghost holds = { held };
-
-    ghost put_of = { put_exact };
-
-    ghost take_in_of = { taken_in };
-
-    ghost clear_of = { cleared };
+    ghost operations = { exact_operations };
 
     ghost bounded = { is_bounded };
 

@@ -4,5 +4,5 @@ use Rattle.signature.proofs.change.apply.apply.Given as goal
 
 abbrev pub invariant-loop-change : goal.invariant-loop-change
 invariant-loop-change g l =
-    applied g.S.Signature.put_of g.S.Signature.take_in_of g.S.Signature.clear_of l.s (drop l.change-index l.changes) ≡
-    applied g.S.Signature.put_of g.S.Signature.take_in_of g.S.Signature.clear_of l.initial.s l.changes
+    applied g.S.Signature.operations l.s (drop l.change-index l.changes) ≡
+    applied g.S.Signature.operations l.initial.s l.changes
