@@ -2,7 +2,6 @@
 -- Assumes nothing.
 use Rattle.std.proofs.Common.{◌≡◌, ℕ, List, Some, None, Ok, Err, Option, Result, refl, subst}
 use Rattle.call.specs.declared.answer.Answer.{Answer}
-use Rattle.call.specs.declared.answer.Answer.TheVariants.{Refused}
 use Rattle.call.specs.declared.call.Call.{Call}
 use Rattle.call.specs.declared.refusal.Refusal.{Refusal}
 use Rattle.races.specs.Remembered.{Remembers}
@@ -20,23 +19,23 @@ same_state {accesses = accesses} memory locks counts plan =
 
 module _ {P S : Type 0} (words : P → List Word) (ops : Operations S) where
   -- a refused call leaves everything as it stood, as far as the rules see it
-  pub refused_leaves : (b after : Board P S) (c : Call) (r : Refusal) → Checks b c (Some r) → after.memory.figures ≡ b.memory.figures → after.size ≡ b.size → ((accesses : List Accessed) → view words after accesses ≡ view words b accesses) → ((accesses : List Accessed) → Remembers b.races accesses → Remembers after.races accesses) → after.signature ≡ b.signature → Obeys words ops b after c (Refused r)
+  pub refused_leaves : (b after : Board P S) (c : Call) (r : Refusal) → Checks b c (Some r) → after.memory.figures ≡ b.memory.figures → after.size ≡ b.size → ((accesses : List Accessed) → view words after accesses ≡ view words b accesses) → ((accesses : List Accessed) → Remembers b.races accesses → Remembers after.races accesses) → after.signature ≡ b.signature → Obeys words ops b after c (Err r)
   refused_leaves b after c r told figures size same remembers signature =
       record {
         figures = figures;
         size = size;
         some = b.some;
         rules = λ accesses m.
-            subst (λ (o : Option Refusal). Left words ops b after (Refused r) (outcome o (setting_of b) (ops.holds b.signature) (view words b accesses) c)) (told accesses m)
+            subst (λ (o : Option Refusal). Left words ops b after (Err r) (outcome o (setting_of b) (ops.holds b.signature) (view words b accesses) c)) (told accesses m)
             (record { answer = refl; state = same accesses; remembers = remembers accesses m; signature = signature });
       }
 
   -- and most often it is the board itself that is left
-  pub refused_obeys : (b : Board P S) (c : Call) (r : Refusal) → Checks b c (Some r) → Obeys words ops b b c (Refused r)
+  pub refused_obeys : (b : Board P S) (c : Call) (r : Refusal) → Checks b c (Some r) → Obeys words ops b b c (Err r)
   refused_obeys b c r told = refused_leaves b b c r told refl refl (λ accesses. refl) (λ accesses m. m) refl
 
   -- a call that no check refuses obeys where it is performed
-  pub performed_obeys : (before after : Board P S) (c : Call) (a : Answer) → Checks before c None → Performs words ops before after c a → Obeys words ops before after c a
+  pub performed_obeys : (before after : Board P S) (c : Call) (a : Result Answer Refusal) → Checks before c None → Performs words ops before after c a → Obeys words ops before after c a
   performed_obeys before after c a told p =
       record {
         figures = p.figures;

@@ -1,10 +1,11 @@
 -- Calls played in turn: one more call is one more step of the rules, one more answer, and one more record in the table.
 -- Assumes nothing.
-use Rattle.std.proofs.Common.{◌≡◌, ℕ, suc, ◌+◌, ◌-◌, ◌<◌, List, [], ◌∷◌, ◌++◌, length, drop, set, sym, refl, ap, ◌∙◌, arith}
+use Rattle.std.proofs.Common.{◌≡◌, ℕ, suc, ◌+◌, ◌-◌, ◌<◌, List, [], ◌∷◌, ◌++◌, length, drop, set, sym, refl, ap, ◌∙◌, arith, Result}
 use Rattle.std.proofs.lemmas.List.{append_assoc, set-append_right, drop_more}
 use Rattle.call.specs.declared.answer.Answer.{Answer}
 use Rattle.call.specs.declared.answer.AnswerRecord.{AnswerRecord}
 use Rattle.call.specs.declared.call.Call.{Call}
+use Rattle.call.specs.declared.refusal.Refusal.{Refusal}
 use Rattle.rules.specs.Runs.{Played, answered_first, play}
 use Rattle.rules.specs.State.{State, Setting}
 use Rattle.rules.specs.Steps.{Operations, step, changed_by}
@@ -32,12 +33,12 @@ play_length ops b s g (d ∷ cs) =
     ap suc (play_length ops b (step b (ops.holds g) s d).state (changed_by ops g (step b (ops.holds g) s d).changes) cs)
 
 -- the records of calls with as many answers
-pub records_length : (cs : List Call) (answers : List Answer) → length answers ≡ length cs → length (records_of cs answers) ≡ length cs
+pub records_length : (cs : List Call) (answers : List (Result Answer Refusal)) → length answers ≡ length cs → length (records_of cs answers) ≡ length cs
 records_length [] answers e = refl
 records_length (c ∷ cs) [] e = let no_way : ⊥ = omega arith in absurd no_way
 records_length (c ∷ cs) (a ∷ answers) e = ap suc (records_length cs answers (omega arith))
 
-pub records_more : (cs : List Call) (answers : List Answer) (c : Call) (a : Answer) → length answers ≡ length cs → records_of (cs ++ (c ∷ [])) (answers ++ (a ∷ [])) ≡ records_of cs answers ++ (record_of c a ∷ [])
+pub records_more : (cs : List Call) (answers : List (Result Answer Refusal)) (c : Call) (a : Result Answer Refusal) → length answers ≡ length cs → records_of (cs ++ (c ∷ [])) (answers ++ (a ∷ [])) ≡ records_of cs answers ++ (record_of c a ∷ [])
 records_more [] [] c a e = refl
 records_more [] (x ∷ answers) c a e = let no_way : ⊥ = omega arith in absurd no_way
 records_more (d ∷ cs) [] c a e = let no_way : ⊥ = omega arith in absurd no_way
@@ -45,11 +46,11 @@ records_more (d ∷ cs) (x ∷ answers) c a e =
     ap (λ (l : List AnswerRecord). record_of d x ∷ l) (records_more cs answers c a (omega arith))
 
 -- the answers that stand in them
-pub answers_back : (cs : List Call) (answers : List Answer) → length answers ≡ length cs → answers_in (records_of cs answers) ≡ answers
+pub answers_back : (cs : List Call) (answers : List (Result Answer Refusal)) → length answers ≡ length cs → answers_in (records_of cs answers) ≡ answers
 answers_back [] [] e = refl
 answers_back [] (x ∷ answers) e = let no_way : ⊥ = omega arith in absurd no_way
 answers_back (d ∷ cs) [] e = let no_way : ⊥ = omega arith in absurd no_way
-answers_back (d ∷ cs) (x ∷ answers) e = ap (λ (l : List Answer). x ∷ l) (answers_back cs answers (omega arith))
+answers_back (d ∷ cs) (x ∷ answers) e = ap (λ (l : List (Result Answer Refusal)). x ∷ l) (answers_back cs answers (omega arith))
 
 -- a table whose first records are known takes one more
 pub table_more : (front table : List AnswerRecord) (r : AnswerRecord) (n : ℕ) → length front ≡ n → n < length table → set (front ++ drop n table) n r ≡ (front ++ (r ∷ [])) ++ drop (n + 1) table

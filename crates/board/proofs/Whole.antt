@@ -1,12 +1,13 @@
 -- Whole runs on a board: calls that each obey the rules play what the rules play, and on a board just opened that is a run, of which
 -- all laws hold. Assumes nothing.
-use Rattle.std.proofs.Common.{◌≡◌, ℕ, ◌+◌, ◌<◌, List, [], ◌∷◌, ◌++◌, length, get_or, take, drop, set, Ok, sym, refl, ap, ◌∙◌, subst, arith, length-append}
+use Rattle.std.proofs.Common.{◌≡◌, ℕ, ◌+◌, ◌<◌, List, [], ◌∷◌, ◌++◌, length, get_or, take, drop, set, Ok, sym, refl, ap, ◌∙◌, subst, arith, length-append, Result}
 use lib.Seq.{take-append_seam}
 use Rattle.std.proofs.lemmas.List.{take_more, length-take-le}
 use Rattle.call.specs.Figures.{Five, figures, checked}
 use Rattle.call.specs.declared.answer.Answer.{Answer}
 use Rattle.call.specs.declared.answer.AnswerRecord.{AnswerRecord}
 use Rattle.call.specs.declared.call.Call.{Call}
+use Rattle.call.specs.declared.refusal.Refusal.{Refusal}
 use Rattle.races.specs.Remembered.{Remembers}
 use Rattle.rules.proofs.Instance.{lawful_run}
 use Rattle.rules.specs.Laws.{LawfulRun}
@@ -32,7 +33,7 @@ module _ {P S : Type 0} (words : P → List Word) (ops : Operations S) where
       }
 
   -- a call on a board that shows what was played is one more step
-  module _ (base : Setting) (b after : Board P S) (c : Call) (a : Answer) (p : Played S) (same : setting_of b ≡ base) (shows : Shows words b p) (obeys : Obeys words ops b after c a) where
+  module _ (base : Setting) (b after : Board P S) (c : Call) (a : Result Answer Refusal) (p : Played S) (same : setting_of b ≡ base) (shows : Shows words b p) (obeys : Obeys words ops b after c a) where
     left : Left words ops b after a (step base (ops.holds p.signature) p.state c)
     left =
         subst (λ (x : Setting). Left words ops b after a (step x (ops.holds p.signature) p.state c)) same
@@ -55,7 +56,7 @@ module _ {P S : Type 0} (words : P → List Word) (ops : Operations S) where
   same_setting b before f s = λ i. record { figures = figures (f i); size = s i }
 
   -- one more call
-  module _ (before b after : Board P S) (cs : List Call) (c : Call) (a : Answer) (table records : List AnswerRecord) (room : length cs < length table) (plays : Plays words ops before b cs table records) (obeys : Obeys words ops b after c a) where
+  module _ (before b after : Board P S) (cs : List Call) (c : Call) (a : Result Answer Refusal) (table records : List AnswerRecord) (room : length cs < length table) (plays : Plays words ops before b cs table records) (obeys : Obeys words ops b after c a) where
     module _ (accesses : List Accessed) (m : Remembers before.races accesses) where
       abbrev played : Played S
       played = play ops (setting_of before) (view words before accesses) before.signature cs
@@ -80,7 +81,7 @@ module _ {P S : Type 0} (words : P → List Word) (ops : Operations S) where
       records_grow : records_of cs played.answers ++ (record_of c a ∷ []) ≡ records_of (cs ++ (c ∷ [])) (play ops (setting_of before) (view words before accesses) before.signature (cs ++ (c ∷ []))).answers
       records_grow =
           sym (records_more cs played.answers c a long)
-          ∙ (ap (λ (x : Answer). records_of (cs ++ (c ∷ [])) (played.answers ++ (x ∷ []))) told
+          ∙ (ap (λ (x : Result Answer Refusal). records_of (cs ++ (c ∷ [])) (played.answers ++ (x ∷ []))) told
           ∙ ap (λ (q : Played S). records_of (cs ++ (c ∷ [])) q.answers) (sym more))
 
       answers_more : set records (length cs) (record_of c a) ≡ records_of (cs ++ (c ∷ [])) (play ops (setting_of before) (view words before accesses) before.signature (cs ++ (c ∷ []))).answers ++ drop (length (cs ++ (c ∷ []))) table
@@ -99,7 +100,7 @@ module _ {P S : Type 0} (words : P → List Word) (ops : Operations S) where
         }
 
   -- one more of a list of calls
-  pub plays_next : (before b after : Board P S) (calls : List Call) (at : ℕ) (d : Call) (a : Answer) (r : AnswerRecord) (table records : List AnswerRecord) → at < length calls → at < length table → Plays words ops before b (take at calls) table records → Obeys words ops b after (get_or calls at d) a → r ≡ record_of (get_or calls at d) a → Plays words ops before after (take (at + 1) calls) table (set records at r)
+  pub plays_next : (before b after : Board P S) (calls : List Call) (at : ℕ) (d : Call) (a : Result Answer Refusal) (r : AnswerRecord) (table records : List AnswerRecord) → at < length calls → at < length table → Plays words ops before b (take at calls) table records → Obeys words ops b after (get_or calls at d) a → r ≡ record_of (get_or calls at d) a → Plays words ops before after (take (at + 1) calls) table (set records at r)
   plays_next before b after calls at d a r table records l room plays obeys e =
       let many : length (take at calls) ≡ at = length-take-le at calls (omega arith) in
       let next = plays_more before b after (take at calls) (get_or calls at d) a table records (omega arith) plays obeys in
@@ -137,6 +138,6 @@ module _ {P S : Type 0} (words : P → List Word) (ops : Operations S) where
           answers = answers;
           board = subst (λ (q : Played S). Shows words after q) played_run (plays.board [] remembers);
           lawful =
-              subst (λ (answers : List Answer). LawfulRun f page (history_of calls answers) (run ops f page g calls).state) (sym back)
+              subst (λ (answers : List (Result Answer Refusal)). LawfulRun f page (history_of calls answers) (run ops f page g calls).state) (sym back)
               (lawful_run ops lawful f page g calls passed);
         }

@@ -2,7 +2,7 @@
 use Rattle.std.specs.Prelude.{◌≡◌, ℕ, Bool, List, Some, None, Ok, Err, Option, Result}
 use Rattle.call.specs.Calls.{caller_of, kind_of}
 use Rattle.call.specs.declared.answer.Answer.{Answer}
-use Rattle.call.specs.declared.answer.Answer.TheVariants.{Loaded, Stored, Done, Refused}
+use Rattle.call.specs.declared.answer.Answer.TheVariants.{Loaded, Stored, Done}
 use Rattle.call.specs.declared.answer.AnswerRecord.{AnswerRecord}
 use Rattle.call.specs.declared.call.Call.{Call}
 use Rattle.call.specs.declared.refusal.Refusal.{Refusal}
@@ -17,10 +17,6 @@ use Rattle.board.specs.Memories.{RemembersSome}
 use Rattle.board.specs.Views.{setting_of, ledger_of, view}
 use Rattle.board.specs.declared.board.Board.{Board}
 
--- a signature's own operations, as the rules take them
-abbrev pub operations : {S : Type 0} → (S → ℕ → ℕ → Bool) → (S → ℕ → ℕ → S) → (S → ℕ → ℕ → S) → (S → ℕ → S) → Operations S
-operations holds put take_in clear = record { holds = holds; put = put; take_in = take_in; clear = clear }
-
 -- whether and why a check refuses is what the rows of the call say, whichever accesses the board remembers
 abbrev pub Checks : {P S : Type 0} → Board P S → Call → Option Refusal → Type 0
 Checks b c found =
@@ -29,7 +25,7 @@ Checks b c found =
 module _ {P S : Type 0} (words : P → List Word) (ops : Operations S) where
   -- the answer and every part of what is left are those of an outcome of the rules: page, copies, owners, locks, counts, plan, this
   -- phase's accesses, and the signature by its own operations
-  pub record Left (before after : Board P S) (a : Answer) (o : Outcome) : Type 0 where
+  pub record Left (before after : Board P S) (a : Result Answer Refusal) (o : Outcome) : Type 0 where
     pub answer : a ≡ o.answer
     pub state : view words after o.state.ledger.accesses ≡ o.state
     pub remembers : Remembers after.races o.state.ledger.accesses
@@ -37,7 +33,7 @@ module _ {P S : Type 0} (words : P → List Word) (ops : Operations S) where
 
   -- a call, accepted or refused, answers and leaves what the rules say, whichever accesses the board remembers, and it remembers some;
   -- figures and size stay
-  pub record Obeys (before after : Board P S) (c : Call) (a : Answer) : Type 0 where
+  pub record Obeys (before after : Board P S) (c : Call) (a : Result Answer Refusal) : Type 0 where
     pub figures : after.memory.figures ≡ before.memory.figures
     pub size : after.size ≡ before.size
     pub some : RemembersSome before.races
@@ -46,7 +42,7 @@ module _ {P S : Type 0} (words : P → List Word) (ops : Operations S) where
         → Left before after a (step (setting_of before) (ops.holds before.signature) (view words before accesses) c)
 
   -- the same of a call that no row refuses
-  pub record Performs (before after : Board P S) (c : Call) (a : Answer) : Type 0 where
+  pub record Performs (before after : Board P S) (c : Call) (a : Result Answer Refusal) : Type 0 where
     pub figures : after.memory.figures ≡ before.memory.figures
     pub size : after.size ≡ before.size
     pub rules :
@@ -56,8 +52,8 @@ module _ {P S : Type 0} (words : P → List Word) (ops : Operations S) where
   -- what a check is good for: a call that it lets pass obeys where it is performed, and one that it refuses obeys where nothing is
   -- done
   abbrev pub Decides : {X : Type 0} → Board P S → Call → Result X Refusal → Type 0
-  Decides b c (Ok x) = (after : Board P S) (a : Answer) → Performs b after c a → Obeys b after c a
-  Decides b c (Err r) = Obeys b b c (Refused r)
+  Decides b c (Ok x) = (after : Board P S) (a : Result Answer Refusal) → Performs b after c a → Obeys b after c a
+  Decides b c (Err r) = Obeys b b c (Err r)
 
 -- nothing is altered: figures and size, page words, copies, owners, locks, counts, plan, accesses and signature are as they were
 pub record Unaltered {P S : Type 0} (words : P → List Word) (before after : Board P S) : Type 0 where
@@ -71,19 +67,19 @@ pub record Unaltered {P S : Type 0} (words : P → List Word) (before after : Bo
   pub signature : after.signature ≡ before.signature
 
 -- what a load answers, as an answer of the rules
-abbrev pub of_load : Result (Word × ℕ) Refusal → Answer
-of_load (Ok p) = Loaded p.0 p.1
-of_load (Err r) = Refused r
+abbrev pub of_load : Result (Word × ℕ) Refusal → Result Answer Refusal
+of_load (Ok p) = Ok (Loaded p.0 p.1)
+of_load (Err r) = Err r
 
 -- what a store answers
-abbrev pub of_store : Result (ℕ × Mark) Refusal → Answer
-of_store (Ok p) = Stored p.0 p.1
-of_store (Err r) = Refused r
+abbrev pub of_store : Result (ℕ × Mark) Refusal → Result Answer Refusal
+of_store (Ok p) = Ok (Stored p.0 p.1)
+of_store (Err r) = Err r
 
 -- what any other call answers
-abbrev pub of_other : Result ℕ Refusal → Answer
-of_other (Ok n) = Done n
-of_other (Err r) = Refused r
+abbrev pub of_other : Result ℕ Refusal → Result Answer Refusal
+of_other (Ok n) = Ok (Done n)
+of_other (Err r) = Err r
 
 -- the refusal of a check, if it refuses
 abbrev pub refused_by : {X : Type 0} → Result X Refusal → Option Refusal
@@ -91,5 +87,5 @@ refused_by (Ok x) = None
 refused_by (Err r) = Some r
 
 -- the record of a call and its answer
-abbrev pub record_of : Call → Answer → AnswerRecord
+abbrev pub record_of : Call → Result Answer Refusal → AnswerRecord
 record_of c a = record { caller = caller_of c; kind = kind_of c; answer = a }

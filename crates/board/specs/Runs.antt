@@ -1,10 +1,11 @@
 -- A whole run as a call promises it: the answer table, the board and its signature by the rules, and the laws of runs.
 -- Assumes nothing.
-use Rattle.std.specs.Prelude.{◌≡◌, ℕ, ◌+◌, List, [], ◌∷◌, ◌++◌, map, length, take, drop}
+use Rattle.std.specs.Prelude.{◌≡◌, ℕ, ◌+◌, List, [], ◌∷◌, ◌++◌, map, length, take, drop, Result}
 use Rattle.call.specs.Figures.{Five}
 use Rattle.call.specs.declared.answer.Answer.{Answer}
 use Rattle.call.specs.declared.answer.AnswerRecord.{AnswerRecord}
 use Rattle.call.specs.declared.call.Call.{Call}
+use Rattle.call.specs.declared.refusal.Refusal.{Refusal}
 use Rattle.races.specs.Remembered.{Remembers}
 use Rattle.rules.specs.Laws.{LawfulRun}
 use Rattle.rules.specs.Runs.{Played, history_of, play, run}
@@ -16,13 +17,13 @@ use Rattle.board.specs.Views.{setting_of, view}
 use Rattle.board.specs.declared.board.Board.{Board}
 
 -- the records of some calls with their answers, in order
-abbrev pub records_of : List Call → List Answer → List AnswerRecord
+abbrev pub records_of : List Call → List (Result Answer Refusal) → List AnswerRecord
 records_of [] answers = []
 records_of (c ∷ cs) [] = []
 records_of (c ∷ cs) (a ∷ answers) = record_of c a ∷ records_of cs answers
 
 -- the answers that stand in some records
-abbrev pub answers_in : List AnswerRecord → List Answer
+abbrev pub answers_in : List AnswerRecord → List (Result Answer Refusal)
 answers_in records = map (λ r. r.answer) records
 
 module _ {P S : Type 0} (words : P → List Word) where

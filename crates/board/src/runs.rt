@@ -1,7 +1,6 @@
 //! Whole runs: any list of calls on a board just opened, with the laws of runs.
 ghost use Rattle.std.specs.Prelude.{◌≡◌, ◌<◌, min, length, take};
 ghost use Rattle.call.specs.Figures.{figures as numbers};
-ghost use Rattle.board.specs.Obeying.{operations};
 ghost use Rattle.board.specs.Runs.{Plays, Advances, Runs};
 
 use crate::board::Board;
@@ -24,7 +23,7 @@ fn advance<P: PageStore, S: Signature>(
     at: usize,
 )
     requires { (at < length calls.now) × (at < length answers.old) }
-    ensures { Advances P.words (operations S.holds S.put_of S.take_in_of S.clear_of) board.old board.new calls.now at answers.old answers.new }
+    ensures { Advances P.words S.operations board.old board.new calls.now at answers.old answers.new }
 {
     answers[at] = board.record(calls[at]);
 }
@@ -36,7 +35,7 @@ fn play<P: PageStore, S: Signature>(
     answers: &mut [AnswerRecord],
 ) -> usize
     ensures made { result ≡ min (length calls.now) (length answers.old) }
-    ensures plays { Plays P.words (operations S.holds S.put_of S.take_in_of S.clear_of) board.old board.new (take result calls.now) answers.old answers.new }
+    ensures plays { Plays P.words S.operations board.old board.new (take result calls.now) answers.old answers.new }
 {
     let most = calls.len().min(answers.len());
     for at in 0..most {
@@ -56,7 +55,7 @@ pub fn play_calls<P: PageStore, S: Signature>(
     answers: &mut [AnswerRecord],
 ) -> Run<P, S>
     ensures made { result.made ≡ min (length calls.now) (length answers.old) }
-    ensures run { Runs P.words (operations S.holds S.put_of S.take_in_of S.clear_of) (numbers figures) (P.words page) signature (take result.made calls.now) answers.old answers.new result.board }
+    ensures run { Runs P.words S.operations (numbers figures) (P.words page) signature (take result.made calls.now) answers.old answers.new result.board }
 {
     let mut board = Board::open(figures, page, signature);
     let made = play(&mut board, calls, answers);

@@ -1,6 +1,5 @@
 //! The player of jobs.
 ghost use Rattle.std.specs.Prelude.{◌≡◌, ◌≤◌, length};
-ghost use Rattle.board.specs.Obeying.{operations};
 ghost use Rattle.board.specs.Runs.{Plays};
 ghost use Rattle.job.specs.Jobs.{calls_of, numbers, rest, verdict_of};
 ghost use Rattle.play.specs.Playing.{checked_with, verdict, PlaysJob};
@@ -32,7 +31,7 @@ fn play_all<P: PageStore, S: Signature>(
 ) -> usize
     requires { (rest job ≡ calls_of job) × (length (calls_of job) ≤ length answers.old) }
     ensures made { result ≡ length (calls_of job.entry) }
-    ensures plays { Plays P.words (operations S.holds S.put_of S.take_in_of S.clear_of) board.old board.new (calls_of job.entry) answers.old answers.new }
+    ensures plays { Plays P.words S.operations board.old board.new (calls_of job.entry) answers.old answers.new }
 {
     let mut made = 0;
     while let Some(call) = job.next_call() {
@@ -59,7 +58,7 @@ pub fn play_job<P: PageStore, S: Signature>(
     signature: S,
     answers: &mut [AnswerRecord],
 ) -> Outcome<P, S>
-    ensures { PlaysJob P.words (operations S.holds S.put_of S.take_in_of S.clear_of) page signature answers.old answers.new (verdict bytes.now (length answers.old)) result }
+    ensures { PlaysJob P.words S.operations page signature answers.old answers.new (verdict bytes.now (length answers.old)) result }
 {
     let job = Job::open(bytes);
     match check_room(&job, answers.len()) {

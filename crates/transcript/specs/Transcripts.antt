@@ -1,7 +1,6 @@
 -- What playback prints for a job, and what becomes of the buffer that it is written into. Assumes nothing.
 use Rattle.std.specs.Prelude.{◌≡◌, ℕ, ◌≤◌, cond, List, ◌++◌, length, take, drop, replicate, Some, None, Ok, Err, Option, Result}
 use Rattle.std.specs.List.{flat_map}
-use Rattle.board.specs.Obeying.{operations}
 use Rattle.board.specs.Runs.{records_of, Runs}
 use Rattle.call.specs.declared.answer.AnswerRecord.{AnswerRecord}
 use Rattle.call.specs.declared.fault.JobFault.{JobFault}

@@ -2,7 +2,6 @@
 #![tactic(auto)]
 
 ghost use Rattle.std.specs.Prelude.{◌≡◌, ◌≤◌, length, IfSome};
-ghost use Rattle.board.specs.Obeying.{operations};
 ghost use Rattle.play.specs.Playing.{verdict, PlaysJob};
 ghost use Rattle.transcript.specs.Transcripts.{text_of, fields_of, outcome_text, outcome_fields, transcript, PlaysFresh, Within, Written};
 
@@ -43,8 +42,8 @@ pub fn play_and_write<P: PageStore, S: Signature>(
     answers: &mut [AnswerRecord],
     out: &mut [u8],
 ) -> Transcript<P, S>
-    ensures played { PlaysJob P.words (operations S.holds S.put_of S.take_in_of S.clear_of) page signature answers.old answers.new (verdict bytes.now (length answers.old)) result.outcome }
-    ensures text { Written (text_of (operations S.holds S.put_of S.take_in_of S.clear_of) (P.words page) signature (verdict bytes.now (length answers.old))) out.old out.new (fields_of (verdict bytes.now (length answers.old))) result.size }
+    ensures played { PlaysJob P.words S.operations page signature answers.old answers.new (verdict bytes.now (length answers.old)) result.outcome }
+    ensures text { Written (text_of S.operations (P.words page) signature (verdict bytes.now (length answers.old))) out.old out.new (fields_of (verdict bytes.now (length answers.old))) result.size }
 {
     let outcome = play_job(bytes, page, signature, answers);
     let size = write_outcome(&outcome, answers, out);

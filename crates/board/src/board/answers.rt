@@ -1,79 +1,39 @@
 //! Any call, and its answer.
 ghost use Rattle.std.specs.Prelude.{◌≡◌};
-ghost use Rattle.board.specs.Obeying.{record_of, Obeys, operations, of_load, of_store, of_other};
+ghost use Rattle.board.specs.Obeying.{record_of, Obeys};
 
 use super::Board;
 use call::{Answer, AnswerRecord, Call, Refusal};
 use page::PageStore;
 use signature::Signature;
-use word::{Mark, Word};
-
-// The answer of a load: its pair of word and source is taken apart.
-fn of_load(loaded: Result<(Word, u8), Refusal>) -> Answer
-    ensures { result ≡ of_load loaded }
-{
-    match loaded {
-        Ok(found) => {
-            let (word, source) = found;
-            Answer::Loaded(word, source)
-        }
-        Err(refusal) => Answer::Refused(refusal),
-    }
-}
-
-// The answer of a store.
-fn of_store(stored: Result<(u8, Mark), Refusal>) -> Answer
-    ensures { result ≡ of_store stored }
-{
-    match stored {
-        Ok(put) => {
-            let (answer, mark) = put;
-            Answer::Stored(answer, mark)
-        }
-        Err(refusal) => Answer::Refused(refusal),
-    }
-}
-
-// The answer of an evict, an acquire or a release.
-fn of_other(done: Result<u8, Refusal>) -> Answer
-    ensures { result ≡ of_other done }
-{
-    match done {
-        Ok(answer) => Answer::Done(answer as u16),
-        Err(refusal) => Answer::Refused(refusal),
-    }
-}
-
-// The answer of a phase call.
-fn of_phase(dropped: Result<u16, Refusal>) -> Answer
-    ensures { result ≡ of_other dropped }
-{
-    match dropped {
-        Ok(number) => Answer::Done(number),
-        Err(refusal) => Answer::Refused(refusal),
-    }
-}
 
 impl<P: PageStore, S: Signature> Board<P, S> {
-    /// Makes a call, and gives its answer, accepted or refused.
-    pub fn answer(&mut self, call: Call) -> Answer
-        ensures { Obeys P.words (operations S.holds S.put_of S.take_in_of S.clear_of) self.old self.new call result }
+    /// Makes a call, and gives its answer, or why it is refused.
+    pub fn answer(&mut self, call: Call) -> Result<Answer, Refusal>
+        ensures { Obeys P.words S.operations self.old self.new call result }
     {
-        match call {
-            Call::Load(core, word) => of_load(self.load(core, word)),
-            Call::Store(core, word, value) => of_store(self.store(core, word, value)),
-            Call::Evict(core, word) => of_other(self.evict(core, word)),
-            Call::Acquire(core, lock) => of_other(self.acquire(core, lock)),
-            Call::Release(core, lock) => of_other(self.release(core, lock)),
-            Call::Phase(plan) => of_phase(self.phase(plan)),
+        let answer = match call {
+            Call::Load(core, word) => {
+                let (word, source) = self.load(core, word)?;
+                Answer::Loaded(word, source)
+            }
+            Call::Store(core, word, value) => {
+                let (answer, mark) = self.store(core, word, value)?;
+                Answer::Stored(answer, mark)
+            }
+            Call::Evict(core, word) => Answer::Done(self.evict(core, word)? as u16),
+            Call::Acquire(core, lock) => Answer::Done(self.acquire(core, lock)? as u16),
+            Call::Release(core, lock) => Answer::Done(self.release(core, lock)? as u16),
+            Call::Phase(plan) => Answer::Done(self.phase(plan)?),
             Call::Settle => Answer::Done(self.settle()),
-        }
+        };
+        Ok(answer)
     }
 
     /// Makes a call, and gives the record of it: who called, what kind of call, and its answer.
     pub fn record(&mut self, call: Call) -> AnswerRecord
         ensures value { result ≡ record_of call result.answer }
-        ensures obeys { Obeys P.words (operations S.holds S.put_of S.take_in_of S.clear_of) self.old self.new call result.answer }
+        ensures obeys { Obeys P.words S.operations self.old self.new call result.answer }
     {
         AnswerRecord::of(call, self.answer(call))
     }

@@ -13,7 +13,7 @@ ghost use Rattle.rules.specs.Refusals.{as_race, earliest, waits, holds as holder
 ghost use Rattle.rules.specs.State.{Accessed};
 ghost use Rattle.rules.specs.Tables.{first, when};
 ghost use Rattle.board.specs.Checking.{load_rows, store_rows};
-ghost use Rattle.board.specs.Obeying.{Checks, Decides, operations, refused_by};
+ghost use Rattle.board.specs.Obeying.{Checks, Decides, refused_by};
 ghost use Rattle.board.specs.Views.{counts_of};
 
 use super::Board;
@@ -167,7 +167,7 @@ impl<P: PageStore, S: Signature> Board<P, S> {
 
     // The check of a load decides what becomes of it.
     pub(super) fn check_load(&self, core: u8, word: u16) -> Result<(), Refusal>
-        ensures decides { Decides P.words (operations S.holds S.put_of S.take_in_of S.clear_of) self.now (calls.Load core word) result }
+        ensures decides { Decides P.words S.operations self.now (calls.Load core word) result }
         ensures within { OnOk result ((core < 8) × (word < 4096)) }
     {
         self.check_load_rows(core, word)
@@ -175,7 +175,7 @@ impl<P: PageStore, S: Signature> Board<P, S> {
 
     // The check of a store.
     pub(super) fn check_store(&self, core: u8, word: u16) -> Result<(), Refusal>
-        ensures decides { (value : ℕ) → Decides P.words (operations S.holds S.put_of S.take_in_of S.clear_of) self.now (calls.Store core word value) result }
+        ensures decides { (value : ℕ) → Decides P.words S.operations self.now (calls.Store core word value) result }
         ensures within { OnOk result ((core < 8) × (word < 4096)) }
         ensures allowed { OnOk result (counts_of self.now.counts core < 1000000) }
     {
@@ -184,7 +184,7 @@ impl<P: PageStore, S: Signature> Board<P, S> {
 
     // The check of an evict.
     pub(super) fn check_evict(&self, core: u8, word: u16) -> Result<(), Refusal>
-        ensures decides { Decides P.words (operations S.holds S.put_of S.take_in_of S.clear_of) self.now (calls.Evict core word) result }
+        ensures decides { Decides P.words S.operations self.now (calls.Evict core word) result }
         ensures within { OnOk result ((core < 8) × (word < 4096)) }
     {
         self.check_word(core, word)
@@ -192,7 +192,7 @@ impl<P: PageStore, S: Signature> Board<P, S> {
 
     // The check of a phase call.
     pub(super) fn check_phase(&self, plan: u64) -> Result<(), Refusal>
-        ensures { Decides P.words (operations S.holds S.put_of S.take_in_of S.clear_of) self.now (calls.Phase plan) result }
+        ensures { Decides P.words S.operations self.now (calls.Phase plan) result }
     {
         self.check_phase_rows(plan)
     }

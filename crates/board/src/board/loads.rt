@@ -1,10 +1,10 @@
 //! Loads: the word, with where it came from.
-ghost use Rattle.std.specs.Prelude.{◌≡◌, ◌<◌, ◌&&◌};
+ghost use Rattle.std.specs.Prelude.{◌≡◌, ◌<◌, ◌&&◌, Ok};
 ghost use Rattle.call.specs.Figures.{figures};
 ghost use Rattle.call.specs.declared.answer.Answer.TheVariants.{Loaded};
 ghost use Rattle.call.specs.declared.call.Call.TheVariants.{Load};
 ghost use Rattle.rules.specs.Plans.{mode_of, is_locked};
-ghost use Rattle.board.specs.Obeying.{Performs, Obeys, operations, of_load};
+ghost use Rattle.board.specs.Obeying.{Performs, Obeys, of_load};
 
 use super::Board;
 use super::bounds::{core_at, place_at};
@@ -17,7 +17,7 @@ use word::Word;
 impl<P: PageStore, S: Signature> Board<P, S> {
     // Whether the core may have an old copy of the word: in a locked strip, where its signature holds the word.
     fn may_be_old(&self, core: u8, word: u16) -> bool
-        ensures { result ≡ is_locked (mode_of (figures self.now.memory.figures) self.now.plan word) && S.holds self.now.signature core word }
+        ensures { result ≡ is_locked (mode_of (figures self.now.memory.figures) self.now.plan word) && S.operations.holds self.now.signature core word }
     {
         match self.mode(word) {
             Mode::ReadOnly => false,
@@ -29,7 +29,7 @@ impl<P: PageStore, S: Signature> Board<P, S> {
     // A load that no check refuses.
     fn give(&mut self, core: u8, word: u16) -> (Word, u8)
         requires { (core < 8) × (word < 4096) }
-        ensures { Performs P.words (operations S.holds S.put_of S.take_in_of S.clear_of) self.old self.new (Load core word) (Loaded result.0 result.1) }
+        ensures { Performs P.words S.operations self.old self.new (Load core word) (Ok (Loaded result.0 result.1)) }
     {
         let again = self.may_be_old(core, word);
         let found = self.memory.load(core_at(core), place_at(word), again);
@@ -41,7 +41,7 @@ impl<P: PageStore, S: Signature> Board<P, S> {
     /// no such core, 2 no such word, 3 the core waits, 5 the strip is locked and the core does not hold its lock, 6 another core
     /// stored the word in this phase of a written strip.
     pub fn load(&mut self, core: u8, word: u16) -> Result<(Word, u8), Refusal>
-        ensures { Obeys P.words (operations S.holds S.put_of S.take_in_of S.clear_of) self.old self.new (Load core word) (of_load result) }
+        ensures { Obeys P.words S.operations self.old self.new (Load core word) (of_load result) }
     {
         self.check_load(core, word)?;
         Ok(self.give(core, word))

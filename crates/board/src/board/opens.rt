@@ -5,7 +5,6 @@ ghost use Rattle.locks.specs.Views.{locks_of};
 ghost use Rattle.races.specs.Remembered.{Remembers};
 ghost use Rattle.rules.specs.State.{free, size_of, opening};
 ghost use Rattle.rules.specs.Steps.{changed_by, clear_all};
-ghost use Rattle.board.specs.Obeying.{operations};
 ghost use Rattle.board.specs.Views.{view};
 
 use super::Board;
@@ -48,7 +47,7 @@ impl<P: PageStore, S: Signature> Board<P, S> {
         ensures size { result.size ≡ size_of (numbers figures) (P.words page) }
         ensures state { view P.words result [] ≡ opening (numbers figures) (P.words page) }
         ensures remembers { Remembers result.races [] }
-        ensures signature { result.signature ≡ changed_by (operations S.holds S.put_of S.take_in_of S.clear_of) signature clear_all }
+        ensures signature { result.signature ≡ changed_by S.operations signature clear_all }
     {
         let memory = Memory::open(figures, page);
         let size = memory.size();

@@ -1,11 +1,11 @@
 //! Settle, and the phases.
-ghost use Rattle.std.specs.Prelude.{◌≡◌};
+ghost use Rattle.std.specs.Prelude.{◌≡◌, Ok};
 ghost use Rattle.call.specs.declared.answer.Answer.TheVariants.{Done};
 ghost use Rattle.call.specs.declared.call.Call.TheVariants.{Phase, Settle};
 ghost use Rattle.memory.specs.Views.{five_of, view as memory_view};
 ghost use Rattle.rules.specs.Effects.{fade};
 ghost use Rattle.rules.specs.Steps.{changed_by, clear_all};
-ghost use Rattle.board.specs.Obeying.{Performs, Obeys, operations, of_other};
+ghost use Rattle.board.specs.Obeying.{Performs, Obeys, of_other};
 
 use super::Board;
 use call::Refusal;
@@ -15,7 +15,7 @@ use signature::Signature;
 
 // Clears the signatures of all cores, in rising order.
 pub(super) fn clear_all<S: Signature>(signature: &mut S)
-    ensures { signature.new ≡ changed_by (operations S.holds S.put_of S.take_in_of S.clear_of) signature.old clear_all }
+    ensures { signature.new ≡ changed_by S.operations signature.old clear_all }
 {
     for core in 0..8 {
         signature.clear(core);
@@ -39,14 +39,14 @@ impl<P: PageStore, S: Signature> Board<P, S> {
     /// Writes every registered copy to the page: each becomes valid and its word has no owner any more. How many there were. It is never
     /// refused.
     pub fn settle(&mut self) -> u16
-        ensures { Obeys P.words (operations S.holds S.put_of S.take_in_of S.clear_of) self.old self.new Settle (Done result) }
+        ensures { Obeys P.words S.operations self.old self.new Settle (Ok (Done result)) }
     {
         self.memory.settle()
     }
 
     // A phase call that no check refuses.
     fn begin(&mut self, plan: u64) -> u16
-        ensures { Performs P.words (operations S.holds S.put_of S.take_in_of S.clear_of) self.old self.new (Phase plan) (Done result) }
+        ensures { Performs P.words S.operations self.old self.new (Phase plan) (Ok (Done result)) }
     {
         let dropped = turn_plan(&mut self.memory, &mut self.plan, plan);
         clear_all(&mut self.signature);
@@ -59,7 +59,7 @@ impl<P: PageStore, S: Signature> Board<P, S> {
     /// all signatures are cleared, and last releasers and the phase's accesses are forgotten. How many copies were dropped. Refused
     /// in this order: 11 the plan has a mode from 2 to 7, 12 some lock is held.
     pub fn phase(&mut self, plan: u64) -> Result<u16, Refusal>
-        ensures { Obeys P.words (operations S.holds S.put_of S.take_in_of S.clear_of) self.old self.new (Phase plan) (of_other result) }
+        ensures { Obeys P.words S.operations self.old self.new (Phase plan) (of_other result) }
     {
         self.check_phase(plan)?;
         Ok(self.begin(plan))

@@ -1,5 +1,5 @@
 //! Stores and evictions.
-ghost use Rattle.std.specs.Prelude.{◌≡◌, ◌+◌, ◌<◌, [], ◌∷◌, if◌then◌else◌};
+ghost use Rattle.std.specs.Prelude.{◌≡◌, ◌+◌, ◌<◌, [], ◌∷◌, if◌then◌else◌, Ok};
 ghost use Rattle.call.specs.declared.answer.Answer.TheVariants.{Stored, Done};
 ghost use Rattle.call.specs.declared.call.Call.TheVariants.{Store, Evict};
 ghost use Rattle.memory.specs.Modes.{mode_in};
@@ -7,7 +7,7 @@ ghost use Rattle.rules.specs.Plans.{is_locked};
 ghost use Rattle.rules.specs.Steps.{put, changed_by};
 ghost use Rattle.word.specs.Lawful.{mark_of};
 ghost use Rattle.word.specs.Marks.{mark_at};
-ghost use Rattle.board.specs.Obeying.{Performs, Obeys, operations, of_store, of_other};
+ghost use Rattle.board.specs.Obeying.{Performs, Obeys, of_store, of_other};
 ghost use Rattle.board.specs.Views.{counts_of};
 
 use super::Board;
@@ -20,7 +20,7 @@ use word::{Mark, Word};
 
 // Puts a word that is stored in a locked strip into the core's signature.
 fn sign<S: Signature>(signature: &mut S, mode: Mode, core: u8, word: u16)
-    ensures { signature.new ≡ changed_by (operations S.holds S.put_of S.take_in_of S.clear_of) signature.old (if is_locked (mode_in mode) then put core word ∷ [] else []) }
+    ensures { signature.new ≡ changed_by S.operations signature.old (if is_locked (mode_in mode) then put core word ∷ [] else []) }
 {
     match mode {
         Mode::ReadOnly => {}
@@ -41,7 +41,7 @@ impl<P: PageStore, S: Signature> Board<P, S> {
     // A store that no check refuses.
     fn put(&mut self, core: u8, word: u16, value: u32) -> (u8, Mark)
         requires { (core < 8) × ((word < 4096) × (counts_of self.old.counts core < 1000000)) }
-        ensures { Performs P.words (operations S.holds S.put_of S.take_in_of S.clear_of) self.old self.new (Store core word value) (Stored result.0 result.1) }
+        ensures { Performs P.words S.operations self.old self.new (Store core word value) (Ok (Stored result.0 result.1)) }
     {
         let mode = self.mode(word);
         let mark = self.next_mark(core);
@@ -59,7 +59,7 @@ impl<P: PageStore, S: Signature> Board<P, S> {
     /// core, 2 no such word, 3 the core waits, 4 the strip is read-only, 5 it is locked and the core does not hold its lock, 6 another
     /// core stored the word, or loaded it, in this phase of a written strip, 7 the core has made as many stores as it is allowed.
     pub fn store(&mut self, core: u8, word: u16, value: u32) -> Result<(u8, Mark), Refusal>
-        ensures { Obeys P.words (operations S.holds S.put_of S.take_in_of S.clear_of) self.old self.new (Store core word value) (of_store result) }
+        ensures { Obeys P.words S.operations self.old self.new (Store core word value) (of_store result) }
     {
         self.check_store(core, word)?;
         Ok(self.put(core, word, value))
@@ -68,7 +68,7 @@ impl<P: PageStore, S: Signature> Board<P, S> {
     // An evict that no check refuses.
     fn give_up(&mut self, core: u8, word: u16) -> u8
         requires { (core < 8) × (word < 4096) }
-        ensures { Performs P.words (operations S.holds S.put_of S.take_in_of S.clear_of) self.old self.new (Evict core word) (Done result) }
+        ensures { Performs P.words S.operations self.old self.new (Evict core word) (Ok (Done result)) }
     {
         self.memory.evict(core_at(core), place_at(word))
     }
@@ -76,7 +76,7 @@ impl<P: PageStore, S: Signature> Board<P, S> {
     /// Gives up a core's copy of a word: 0 without a copy, 1 for a valid one, 2 for a registered one, which is written to the page. Refused
     /// in this order: 1 there is no such core, 2 no such word.
     pub fn evict(&mut self, core: u8, word: u16) -> Result<u8, Refusal>
-        ensures { Obeys P.words (operations S.holds S.put_of S.take_in_of S.clear_of) self.old self.new (Evict core word) (of_other result) }
+        ensures { Obeys P.words S.operations self.old self.new (Evict core word) (of_other result) }
     {
         self.check_evict(core, word)?;
         Ok(self.give_up(core, word))

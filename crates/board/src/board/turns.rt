@@ -2,7 +2,7 @@
 ghost use Rattle.std.specs.Prelude.{◌≡◌, ◌+◌, ◌<◌, IfSome};
 ghost use Rattle.call.specs.declared.call.Call.TheVariants.{Acquire, Release};
 ghost use Rattle.rules.specs.Steps.{changed_by, takes_from};
-ghost use Rattle.board.specs.Obeying.{Obeys, operations, of_other};
+ghost use Rattle.board.specs.Obeying.{Obeys, of_other};
 ghost use Rattle.board.specs.Turns.{handed_on, passed_number};
 
 use super::Board;
@@ -13,7 +13,7 @@ use signature::Signature;
 
 // Lets a core take in the signature of a lock's last releaser, if there is one.
 fn take_from<S: Signature>(signature: &mut S, core: u8, last: Option<u8>)
-    ensures { signature.new ≡ changed_by (operations S.holds S.put_of S.take_in_of S.clear_of) signature.old (takes_from last core) }
+    ensures { signature.new ≡ changed_by S.operations signature.old (takes_from last core) }
 {
     if let Some(other) = last {
         signature.take_in(core, other);
@@ -23,7 +23,7 @@ fn take_from<S: Signature>(signature: &mut S, core: u8, last: Option<u8>)
 // Lets the core that a lock passes to take in the releaser's signature. That core and one, or 0 if nobody waits.
 fn hand_on<S: Signature>(signature: &mut S, core: u8, next: Option<u8>) -> u8
     requires { IfSome next (λ n. n < 8) }
-    ensures after { signature.new ≡ changed_by (operations S.holds S.put_of S.take_in_of S.clear_of) signature.old (handed_on next core) }
+    ensures after { signature.new ≡ changed_by S.operations signature.old (handed_on next core) }
     ensures answer { result ≡ passed_number next }
 {
     match next {
@@ -40,7 +40,7 @@ impl<P: PageStore, S: Signature> Board<P, S> {
     /// held, and the core waits as the last in its queue. Refused in this order: 1 there is no such core, 3 the core waits, 8 there is
     /// no such lock, 9 the core holds a lock.
     pub fn acquire(&mut self, core: u8, lock: u8) -> Result<u8, Refusal>
-        ensures { Obeys P.words (operations S.holds S.put_of S.take_in_of S.clear_of) self.old self.new (Acquire core lock) (of_other result) }
+        ensures { Obeys P.words S.operations self.old self.new (Acquire core lock) (of_other result) }
     {
         self.check_core(core)?;
         match self.locks.acquire(core, lock)? {
@@ -56,7 +56,7 @@ impl<P: PageStore, S: Signature> Board<P, S> {
     /// or 0 if nobody waits. Refused in this order: 1 there is no such core, 3 the core waits, 8 there is no such lock, 10 the core
     /// does not hold it.
     pub fn release(&mut self, core: u8, lock: u8) -> Result<u8, Refusal>
-        ensures { Obeys P.words (operations S.holds S.put_of S.take_in_of S.clear_of) self.old self.new (Release core lock) (of_other result) }
+        ensures { Obeys P.words S.operations self.old self.new (Release core lock) (of_other result) }
     {
         self.check_core(core)?;
         let next = self.locks.release(core, lock)?;

@@ -1,5 +1,4 @@
 use Rattle.std.proofs.Common.{ℕ, List, length, subst}
-use Rattle.board.specs.Obeying.{operations}
 use Rattle.play.specs.Playing.{verdict}
 use Rattle.transcript.specs.Transcripts.{fields_of, outcome_text, Written}
 use Rattle.transcript.proofs.Texts.{within, same_text, same_fields}
@@ -11,7 +10,7 @@ write_outcome-size-requires g c = within _ _ _ _ _ _ (verdict c.args.bytes.now (
 pub returns : goal.returns
 returns g c =
     let words = g.P.PageStore.words in
-    let ops = operations g.S.Signature.holds g.S.Signature.put_of g.S.Signature.take_in_of g.S.Signature.clear_of in
+    let ops = g.S.Signature.operations in
     let v = verdict c.args.bytes.now (length c.args.answers.now) in
     let o = c.play_job-outcome.result in
     let after = c.play_job-outcome.new.answers in

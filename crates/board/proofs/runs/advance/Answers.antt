@@ -1,11 +1,10 @@
 use Rattle.std.proofs.Common.{arith}
-use Rattle.board.specs.Obeying.{operations}
 use Rattle.board.proofs.Whole.{plays_next}
 use Rattle.board.proofs.runs.advance.Goals as goal
 
 pub returns : goal.returns
 returns g c =
-    let ops = operations g.S.Signature.holds g.S.Signature.put_of g.S.Signature.take_in_of g.S.Signature.clear_of in
+    let ops = g.S.Signature.operations in
     λ start table many plays.
     plays_next g.P.PageStore.words ops start c.args.board.now _ c.args.calls.now c.args.at _ c.«record».result.answer c.«record».result table c.args.answers.now
     c.requires.0

@@ -1,13 +1,12 @@
 use Rattle.std.proofs.Common.{ap}
 use Rattle.call.proofs.Passing.{figures_checked}
 use Rattle.call.specs.Figures.{figures}
-use Rattle.board.specs.Obeying.{operations}
 use Rattle.board.proofs.Whole.{runs}
 use Rattle.board.proofs.runs.play_calls.Goals as goal
 
 pub returns : goal.returns
 returns g c =
-    let ops = operations g.S.Signature.holds g.S.Signature.put_of g.S.Signature.take_in_of g.S.Signature.clear_of in
+    let ops = g.S.Signature.operations in
     let sentences = g.S.Signature in
     record {
       made = c.play-made.ensures.made;

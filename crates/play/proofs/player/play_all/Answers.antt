@@ -1,7 +1,7 @@
 use Rattle.std.proofs.Common.{◌≡◌, ℕ, length, drop, ap, ◌∙◌, subst, add-one, arith, length-set}
 use Rattle.std.proofs.lemmas.List.{take_all}
 use Rattle.board.proofs.Whole.{plays_next}
-use Rattle.board.specs.Obeying.{Obeys, record_of, operations}
+use Rattle.board.specs.Obeying.{Obeys, record_of}
 use Rattle.board.specs.Runs.{Plays}
 use Rattle.call.specs.declared.call.Call.{Call}
 use Rattle.job.specs.Jobs.{calls_of, rest, first}
@@ -20,7 +20,7 @@ loop-call-smaller g c =
 pub loop-call-preserved : goal.loop-call-preserved
 loop-call-preserved g c =
     let words = g.P.PageStore.words in
-    let ops = operations g.S.Signature.holds g.S.Signature.put_of g.S.Signature.take_in_of g.S.Signature.clear_of in
+    let ops = g.S.Signature.operations in
     let calls = calls_of c.args.job in
     let made = c.loop-call.made in
     let read = read_call calls made c.in-Some.call (c.in-Some.ensures.value ∙ ap first c.loop-call.invariant.2) in (
@@ -38,7 +38,7 @@ loop-call-preserved g c =
 pub returns : goal.returns
 returns g c =
     let words = g.P.PageStore.words in
-    let ops = operations g.S.Signature.holds g.S.Signature.put_of g.S.Signature.take_in_of g.S.Signature.clear_of in
+    let ops = g.S.Signature.operations in
     let calls = calls_of c.args.job in
     let over = all_read calls c.loop-call.made (c.in_default.ensures.value ∙ ap first c.loop-call.invariant.2) in
     let all : c.loop-call.made ≡ length calls = omega (arith, over, c.loop-call.invariant.1) in

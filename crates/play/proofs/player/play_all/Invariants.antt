@@ -1,5 +1,4 @@
 use Rattle.std.proofs.Common.{◌≡◌, ◌≤◌, length, take, drop}
-use Rattle.board.specs.Obeying.{operations}
 use Rattle.board.specs.Runs.{Plays}
 use Rattle.job.specs.Jobs.{calls_of, rest}
 use Rattle.play.proofs.player.play_all.Given as goal
@@ -10,7 +9,7 @@ invariant-loop-call g l =
     (length l.answers ≡ length l.initial.answers)
     × (l.made ≤ length (calls_of l.initial.job))
     × (rest l.job ≡ drop l.made (calls_of l.initial.job))
-    × Plays g.P.PageStore.words (operations g.S.Signature.holds g.S.Signature.put_of g.S.Signature.take_in_of g.S.Signature.clear_of) l.initial.board l.board (take l.made (calls_of l.initial.job)) l.initial.answers l.answers
+    × Plays g.P.PageStore.words g.S.Signature.operations l.initial.board l.board (take l.made (calls_of l.initial.job)) l.initial.answers l.answers
 
 abbrev pub decreases-loop-call : goal.decreases-loop-call
 decreases-loop-call g l = length (rest l.job)

@@ -1,6 +1,5 @@
 use Rattle.std.proofs.Common.{◌≡◌, List, length, Result, sym, refl, ap, ◌∙◌, subst}
 use Rattle.board.proofs.Whole.{runs}
-use Rattle.board.specs.Obeying.{operations}
 use Rattle.board.specs.Runs.{Runs}
 use Rattle.call.proofs.Passing.{figures_checked}
 use Rattle.call.specs.Figures.{Five, figures}
@@ -17,7 +16,7 @@ use Rattle.play.proofs.player.play_job.Goals as goal
 pub returns-in-Ok : goal.returns-in-Ok
 returns-in-Ok g c =
     let words = g.P.PageStore.words in
-    let ops = operations g.S.Signature.holds g.S.Signature.put_of g.S.Signature.take_in_of g.S.Signature.clear_of in
+    let ops = g.S.Signature.operations in
     let sentences = g.S.Signature in
     let opened = c.open-job.ensures in
     let ok = accepted (reading c.args.bytes.now) (figures c.in-Ok.figures) (length c.args.answers.now) (opened_as _ _ _ _ _ _ opened.value opened.calls c.in-Ok.ensures) in
@@ -33,7 +32,7 @@ returns-in-Ok g c =
 pub returns-in-Err : goal.returns-in-Err
 returns-in-Err g c =
     let words = g.P.PageStore.words in
-    let ops = operations g.S.Signature.holds g.S.Signature.put_of g.S.Signature.take_in_of g.S.Signature.clear_of in
+    let ops = g.S.Signature.operations in
     let opened = c.open-job.ensures in
     let no_job = refused (reading c.args.bytes.now) c.in-Err.fault (length c.args.answers.now) (opened_as _ _ _ _ _ _ opened.value opened.calls c.in-Err.ensures) in
     subst (λ (o : Outcome _ _). PlaysJob words ops c.args.page c.args.signature c.args.answers.now c.args.answers.now (verdict c.args.bytes.now (length c.args.answers.now)) o) (sym c.hand_back.ensures)

@@ -1,10 +1,9 @@
-use Rattle.std.proofs.Common.{sym, refl, ap, ◌∙◌}
+use Rattle.std.proofs.Common.{sym, refl, ap, ◌∙◌, Ok}
 use Rattle.std.proofs.lemmas.Result.{err_from_is_err_and}
 use Rattle.call.specs.Figures.{figures}
 use Rattle.call.specs.declared.answer.Answer.TheVariants.{Done}
 use Rattle.locks.specs.Views.{locks_of}
 use Rattle.rules.specs.Steps.{changed_by}
-use Rattle.board.specs.Obeying.{operations}
 use Rattle.board.proofs.Performing.{same_state}
 use Rattle.board.proofs.Turns.{acquire_told, told_err, told_ok, left_refused, left_done, grant_tells, queue_tells}
 use Rattle.board.proofs.board.Board.acquire.Goals as goal
@@ -33,7 +32,7 @@ returns-in_err-last g c =
 pub returns-in-Granted : goal.returns-in-Granted
 returns-in-Granted g c =
     let b = c.args.self.now in
-    let ops = operations g.S.Signature.holds g.S.Signature.put_of g.S.Signature.take_in_of g.S.Signature.clear_of in
+    let ops = g.S.Signature.operations in
     let rows = acquire_told (locks_of b.locks) (figures b.memory.figures).cores c.args.core c.args.lock c.in_ok-check_core.ensures.within c.in_ok-check_core.ensures.told in
     let got = told_ok _ _ _ c.in_ok-last.ensures.answer in
     let tells = grant_tells (locks_of b.locks c.args.lock).holder c.in-Granted.last (locks_of b.locks c.args.lock) c.args.core (sym c.in-Granted.is ∙ got.1) in
@@ -44,7 +43,7 @@ returns-in-Granted g c =
       rules = λ accesses m.
           rw (sym (got.0 ∙ rows))
           (record {
-            answer = ap Done tells.0;
+            answer = ap (λ n. Ok (Done n)) tells.0;
             state = same_state refl (c.in_ok-last.ensures.after ∙ left_done _ _ _ got.0) refl refl;
             remembers = m;
             signature = c.take_from.ensures ∙ ap (changed_by ops b.signature) tells.1;
@@ -54,7 +53,7 @@ returns-in-Granted g c =
 pub returns-in-Queued : goal.returns-in-Queued
 returns-in-Queued g c =
     let b = c.args.self.now in
-    let ops = operations g.S.Signature.holds g.S.Signature.put_of g.S.Signature.take_in_of g.S.Signature.clear_of in
+    let ops = g.S.Signature.operations in
     let rows = acquire_told (locks_of b.locks) (figures b.memory.figures).cores c.args.core c.args.lock c.in_ok-check_core.ensures.within c.in_ok-check_core.ensures.told in
     let got = told_ok _ _ _ c.in_ok-last.ensures.answer in
     let tells = queue_tells (locks_of b.locks c.args.lock).holder (locks_of b.locks c.args.lock) c.args.core (sym c.in-Queued.is ∙ got.1) in
@@ -65,7 +64,7 @@ returns-in-Queued g c =
       rules = λ accesses m.
           rw (sym (got.0 ∙ rows))
           (record {
-            answer = ap Done tells.0;
+            answer = ap (λ n. Ok (Done n)) tells.0;
             state = same_state refl (c.in_ok-last.ensures.after ∙ left_done _ _ _ got.0) refl refl;
             remembers = m;
             signature = ap (changed_by ops b.signature) tells.1;

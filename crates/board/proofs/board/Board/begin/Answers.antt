@@ -1,4 +1,4 @@
-use Rattle.std.proofs.Common.{refl, ap}
+use Rattle.std.proofs.Common.{refl, ap, Ok}
 use Rattle.call.specs.declared.answer.Answer.TheVariants.{Done}
 use Rattle.board.proofs.Performing.{same_state}
 use Rattle.board.proofs.board.Board.begin.Goals as goal
@@ -10,7 +10,7 @@ returns g c =
       size = refl;
       rules = λ accesses m.
           record {
-            answer = ap Done c.turn_plan-dropped.ensures.answer;
+            answer = ap (λ n. Ok (Done n)) c.turn_plan-dropped.ensures.answer;
             state = same_state c.turn_plan-dropped.ensures.after c.forget_releasers.ensures refl c.turn_plan-dropped.ensures.plan;
             remembers = c.forget.ensures;
             signature = c.clear_all.ensures;

@@ -1,4 +1,4 @@
-use Rattle.std.proofs.Common.{refl}
+use Rattle.std.proofs.Common.{refl, Ok}
 use Rattle.call.specs.declared.answer.Answer.TheVariants.{Loaded}
 use Rattle.board.proofs.Performing.{same_state}
 use Rattle.board.proofs.Remembering.{some_kept}
@@ -17,7 +17,7 @@ returns g c =
       size = refl;
       rules = λ accesses m.
           record {
-            answer = λ i. Loaded (word i) (source i);
+            answer = λ i. Ok (Loaded (word i) (source i));
             state = same_state after refl refl refl;
             remembers = c.note.ensures accesses m;
             signature = refl;

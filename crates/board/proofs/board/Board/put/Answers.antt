@@ -1,4 +1,4 @@
-use Rattle.std.proofs.Common.{refl, arith}
+use Rattle.std.proofs.Common.{refl, arith, Ok}
 use Rattle.call.specs.declared.answer.Answer.TheVariants.{Stored}
 use Rattle.board.specs.Views.{counts_of}
 use Rattle.board.proofs.Counts.{counts_set}
@@ -23,7 +23,7 @@ returns g c =
       size = refl;
       rules = λ accesses m.
           record {
-            answer = λ i. Stored (answer i) (c.next_mark-mark.ensures i);
+            answer = λ i. Ok (Stored (answer i) (c.next_mark-mark.ensures i));
             state = same_state after refl (counts_set c.args.self.now.counts c.args.core _ (omega (arith, c.args.self.now.eight))) refl;
             remembers = c.note.ensures accesses m;
             signature = rw c.mode-mode.ensures at c.sign.ensures;

@@ -1,10 +1,9 @@
-use Rattle.std.proofs.Common.{sym, refl, ap, ◌∙◌}
+use Rattle.std.proofs.Common.{sym, refl, ap, ◌∙◌, Ok}
 use Rattle.std.proofs.lemmas.Result.{err_from_is_err_and}
 use Rattle.call.specs.Figures.{figures}
 use Rattle.call.specs.declared.answer.Answer.TheVariants.{Done}
 use Rattle.locks.specs.Views.{locks_of}
 use Rattle.rules.specs.Steps.{changed_by}
-use Rattle.board.specs.Obeying.{operations}
 use Rattle.board.proofs.Performing.{same_state}
 use Rattle.board.proofs.Turns.{release_told, told_err, told_ok, left_refused, left_done, passed_tells}
 use Rattle.board.proofs.board.Board.release.Goals as goal
@@ -33,7 +32,7 @@ returns-in_err-next g c =
 pub returns : goal.returns
 returns g c =
     let b = c.args.self.now in
-    let ops = operations g.S.Signature.holds g.S.Signature.put_of g.S.Signature.take_in_of g.S.Signature.clear_of in
+    let ops = g.S.Signature.operations in
     let rows = release_told (locks_of b.locks) (figures b.memory.figures).cores c.args.core c.args.lock c.in_ok-check_core.ensures.within c.in_ok-check_core.ensures.told in
     let got = told_ok _ _ _ c.in_ok-next.ensures.answer in
     let tells = passed_tells (locks_of b.locks c.args.lock).queue c.in_ok-next.next c.args.core got.1 in
@@ -44,7 +43,7 @@ returns g c =
       rules = λ accesses m.
           rw (sym (got.0 ∙ rows))
           (record {
-            answer = ap Done (c.hand_on.ensures.answer ∙ tells.0);
+            answer = ap (λ n. Ok (Done n)) (c.hand_on.ensures.answer ∙ tells.0);
             state = same_state refl (c.in_ok-next.ensures.after ∙ left_done _ _ _ got.0) refl refl;
             remembers = m;
             signature = c.hand_on.ensures.after ∙ ap (changed_by ops b.signature) tells.1;
