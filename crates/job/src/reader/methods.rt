@@ -1,5 +1,6 @@
 //! How a job is opened, and how its calls are read one after another.
 ghost use Rattle.std.specs.Prelude.{◌≡◌, ◌+◌, ◌*◌, ◌≤◌, length, drop, IfOk, Some, None, Ok, MatchResult};
+ghost use Rattle.std.specs.Iterator.{YieldsFirst, MakesProgress, item_count};
 ghost use Rattle.call.specs.Figures.{figures, checked};
 ghost use Rattle.job.specs.Reading.{figures_fault, count_fault, records_fault, job_figures, job_records, job_fault, reading, calls};
 ghost use Rattle.job.specs.Encoding.{encode};
@@ -145,12 +146,22 @@ impl<'a> Job<'a> {
         let start = 16 + 13 * self.next as usize;
         spelled_call(&self.bytes[start..start + 13])
     }
+}
+
+impl Iterator for Job<'_> {
+    type Item = Call;
+
+    ghost next_gives = { YieldsFirst rest };
+
+    ghost remaining = { item_count rest };
 
     /// Reads the next call; none where all were read.
-    pub fn next_call(&mut self) -> Option<Call>
+    fn next(&mut self) -> Option<Call>
         ensures value { result ≡ first (rest self.old) }
         ensures after { rest self.new ≡ drop 1 (rest self.old) }
         ensures same { (verdict_of self.new ≡ verdict_of self.old) × (calls_of self.new ≡ calls_of self.old) }
+        ensures steps { YieldsFirst rest self.old result self.new }
+        ensures goes { MakesProgress (λ _. Unit {0}) (item_count rest) self.old result self.new }
     {
         let call = self.call_here();
         if self.next < self.records {
