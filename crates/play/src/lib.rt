@@ -2,8 +2,8 @@
 //! table. Neither the board nor the job reader sees the other.
 #![tactic(auto)]
 
-pub mod outcome;
 pub mod player;
+pub mod refused;
 
-pub use outcome::Outcome;
 pub use player::play_job;
+pub use refused::RefusedJob;

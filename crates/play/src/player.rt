@@ -3,10 +3,9 @@ ghost use Rattle.std.specs.Prelude.{◌≡◌, ◌≤◌, length};
 ghost use Rattle.board.specs.Runs.{Plays};
 ghost use Rattle.job.specs.Jobs.{calls_of, numbers, rest, verdict_of};
 ghost use Rattle.play.specs.Playing.{checked_with, verdict, PlaysJob};
-ghost use Rattle.play.specs.declared.outcome.Outcome.TheVariants.{Refused};
 
-use crate::outcome::Outcome;
-use board::Board;
+use crate::refused::RefusedJob;
+use board::{Board, Run};
 use call::{AnswerRecord, Figures, JobFault};
 use job::Job;
 use page::PageStore;
@@ -26,26 +25,18 @@ fn check_room(job: &Job<'_>, room: usize) -> Result<Figures, JobFault>
 // Makes the calls of a job in turn, each with its record in the table: how many.
 fn play_all<P: PageStore, S: Signature>(
     board: &mut Board<P, S>,
-    mut job: Job<'_>,
+    job: Job<'_>,
     answers: &mut [AnswerRecord],
 ) -> usize
     requires { (rest job ≡ calls_of job) × (length (calls_of job) ≤ length answers.old) }
     ensures made { result ≡ length (calls_of job.entry) }
     ensures plays { Plays P.words S.operations board.old board.new (calls_of job.entry) answers.old answers.new }
 {
-    let mut made = 0;
-    while let Some(call) = job.next_call() {
-        answers[made] = board.record(call);
-        made += 1;
+    let made = job.records() as usize;
+    for (at, call) in job.enumerate() {
+        answers[at] = board.record(call);
     }
     made
-}
-
-// A refused job hands page and signature back as they are.
-fn hand_back<P, S>(page: P, signature: S, fault: JobFault) -> Outcome<P, S>
-    ensures { result ≡ Refused page signature fault }
-{
-    Outcome::Refused(page, signature, fault)
 }
 
 /// Plays a job. The whole of it is checked before the first call: it is accepted exactly when its bytes have the layout, its figures pass
@@ -57,7 +48,7 @@ pub fn play_job<P: PageStore, S: Signature>(
     page: P,
     signature: S,
     answers: &mut [AnswerRecord],
-) -> Outcome<P, S>
+) -> Result<Run<P, S>, RefusedJob<P, S>>
     ensures { PlaysJob P.words S.operations page signature answers.old answers.new (verdict bytes.now (length answers.old)) result }
 {
     let job = Job::open(bytes);
@@ -65,8 +56,12 @@ pub fn play_job<P: PageStore, S: Signature>(
         Ok(figures) => {
             let mut board = Board::open(figures, page, signature);
             let made = play_all(&mut board, job, answers);
-            Outcome::Played(board, made)
+            Ok(Run { board, made })
         }
-        Err(fault) => hand_back(page, signature, fault),
+        Err(fault) => Err(RefusedJob {
+            page,
+            signature,
+            fault,
+        }),
     }
 }

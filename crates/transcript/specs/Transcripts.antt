@@ -2,6 +2,7 @@
 use Rattle.std.specs.Prelude.{◌≡◌, ℕ, ◌≤◌, cond, List, ◌++◌, length, take, drop, replicate, Some, None, Ok, Err, Option, Result}
 use Rattle.std.specs.List.{flat_map}
 use Rattle.board.specs.Runs.{records_of, Runs}
+use Rattle.board.specs.declared.runs.Run.{Run}
 use Rattle.call.specs.declared.answer.AnswerRecord.{AnswerRecord}
 use Rattle.call.specs.declared.fault.JobFault.{JobFault}
 use Rattle.job.specs.Reading.{Says}
@@ -10,11 +11,10 @@ use Rattle.page.specs.Slots.{laid}
 use Rattle.page.specs.declared.bank.Bank.{Bank}
 use Rattle.page.specs.declared.table.Table.{Table}
 use Rattle.play.specs.Playing.{verdict}
-use Rattle.play.specs.declared.outcome.Outcome.{Outcome}
-use Rattle.play.specs.declared.outcome.Outcome.TheVariants.{Played, Refused}
+use Rattle.play.specs.declared.refused.RefusedJob.{RefusedJob}
 use Rattle.rules.specs.Runs.{run}
 use Rattle.rules.specs.Steps.{Operations}
-use Rattle.signature.specs.Blooms.{fresh, held, put, taken_in, cleared}
+use Rattle.signature.specs.Blooms.{fresh, operations}
 use Rattle.signature.specs.declared.bloom.Bloom.{Bloom}
 use Rattle.word.specs.Words.{blank_word}
 use Rattle.word.specs.declared.word.Word.{Word}
@@ -35,17 +35,13 @@ pub record Written (text before after : List ℕ) (fields : ℕ) (told : Option 
   pub size : told ≡ cond (has_room (length before) fields) (Some (length text)) None
   pub bytes : after ≡ cond (has_room (length before) fields) (text ++ drop (length text) before) before
 
--- the Bloom signature's operations
-abbrev pub bloom : Operations Bloom
-bloom = operations held put taken_in cleared
-
 -- a page of 4,096 words, all 0
 abbrev pub zeros : List Word
 zeros = replicate 4096 blank_word
 
 -- what playback prints: the job is played on a page of zeros with an empty Bloom signature, into a table of this length
 abbrev pub transcript : List ℕ → ℕ → List ℕ
-transcript bytes room = text_of bloom zeros fresh (verdict bytes room)
+transcript bytes room = text_of operations zeros fresh (verdict bytes room)
 
 -- the words that a bank over a table means
 abbrev pub bank_words : Bank Table → List Word
@@ -53,24 +49,24 @@ bank_words b = laid b.slots b.below.cells
 
 -- what becomes of a job on a page of zeros with an empty Bloom signature: an accepted job is a run of its calls, of which all laws hold; a
 -- refused one leaves page, signature and table as they were
-abbrev pub PlaysFresh : List AnswerRecord → List AnswerRecord → Result Says JobFault → Outcome (Bank Table) Bloom → Type 0
-PlaysFresh table after (Ok s) (Played board made) =
-    (made ≡ length s.calls) × Runs bank_words bloom s.figures zeros fresh s.calls table after board
-PlaysFresh table after (Ok s) (Refused p g e) = ⊥
-PlaysFresh table after (Err e) (Played board made) = ⊥
-PlaysFresh table after (Err e) (Refused p g fault) =
-    (bank_words p ≡ zeros) × (g ≡ fresh) × (fault ≡ e) × (after ≡ table)
+abbrev pub PlaysFresh : List AnswerRecord → List AnswerRecord → Result Says JobFault → Result (Run (Bank Table) Bloom) (RefusedJob (Bank Table) Bloom) → Type 0
+PlaysFresh table after (Ok s) (Ok r) =
+    (r.made ≡ length s.calls) × Runs bank_words operations s.figures zeros fresh s.calls table after r.board
+PlaysFresh table after (Ok s) (Err r) = ⊥
+PlaysFresh table after (Err e) (Ok r) = ⊥
+PlaysFresh table after (Err e) (Err r) =
+    (bank_words r.page ≡ zeros) × (r.signature ≡ fresh) × (r.fault ≡ e) × (after ≡ table)
 
 -- the text of what became of a job, from the records in its table
-abbrev pub outcome_text : {P S : Type 0} → Outcome P S → List AnswerRecord → List ℕ
-outcome_text (Played board made) records = flat_map answer_line (take made records)
-outcome_text (Refused page signature e) records = fault_line e
+abbrev pub outcome_text : {P S : Type 0} → Result (Run P S) (RefusedJob P S) → List AnswerRecord → List ℕ
+outcome_text (Ok r) records = flat_map answer_line (take r.made records)
+outcome_text (Err r) records = fault_line r.fault
 
-abbrev pub outcome_fields : {P S : Type 0} → Outcome P S → List AnswerRecord → ℕ
-outcome_fields (Played board made) records = length (take made records)
-outcome_fields (Refused page signature e) records = 1
+abbrev pub outcome_fields : {P S : Type 0} → Result (Run P S) (RefusedJob P S) → List AnswerRecord → ℕ
+outcome_fields (Ok r) records = length (take r.made records)
+outcome_fields (Err r) records = 1
 
 -- an outcome has no more answers than the table has records
-abbrev pub Within : {P S : Type 0} → Outcome P S → List AnswerRecord → Type 0
-Within (Played board made) records = made ≤ length records
-Within (Refused page signature e) records = Unit {0}
+abbrev pub Within : {P S : Type 0} → Result (Run P S) (RefusedJob P S) → List AnswerRecord → Type 0
+Within (Ok r) records = r.made ≤ length records
+Within (Err r) records = Unit {0}

@@ -8,19 +8,20 @@ ghost use Rattle.transcript.specs.Transcripts.{text_of, fields_of, outcome_text,
 use call::AnswerRecord;
 use lines::{write_fault_line, write_lines};
 use page::{Bank, PageStore, Table};
-use play::{Outcome, play_job};
+use board::Run;
+use play::{RefusedJob, play_job};
 use signature::{Bloom, Signature};
 
 /// What was played and written: what became of the job, and the length of the text, if the buffer has room for it.
 #[derive(Drop)]
 pub struct Transcript<P, S> {
-    pub outcome: Outcome<P, S>,
+    pub outcome: Result<Run<P, S>, RefusedJob<P, S>>,
     pub size: Option<usize>,
 }
 
 // Writes the text of what became of a job: the lines of the records that it filled, or the line of its fault.
 fn write_outcome<P, S>(
-    outcome: &Outcome<P, S>,
+    outcome: &Result<Run<P, S>, RefusedJob<P, S>>,
     answers: &[AnswerRecord],
     out: &mut [u8],
 ) -> Option<usize>
@@ -28,8 +29,8 @@ fn write_outcome<P, S>(
     ensures { Written (outcome_text outcome.now answers.now) out.old out.new (outcome_fields outcome.now answers.now) result }
 {
     match outcome {
-        Outcome::Played(_, made) => write_lines(out, &answers[0..*made]),
-        Outcome::Refused(_, _, fault) => write_fault_line(out, *fault),
+        Ok(run) => write_lines(out, &answers[0..run.made]),
+        Err(refused) => write_fault_line(out, refused.fault),
     }
 }
 

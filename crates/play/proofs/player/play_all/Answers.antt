@@ -1,50 +1,46 @@
-use Rattle.std.proofs.Common.{◌≡◌, ℕ, length, drop, ap, ◌∙◌, subst, add-one, arith, length-set}
+use Rattle.std.proofs.Common.{◌≡◌, ℕ, ◌+◌, ◌≤◌, length, drop, take, slice_set, sym, ◌∙◌, subst, add-one, arith}
 use Rattle.std.proofs.lemmas.List.{take_all}
-use Rattle.board.proofs.Whole.{plays_next}
+use Rattle.board.proofs.Whole.{plays_none, plays_next}
 use Rattle.board.specs.Obeying.{Obeys, record_of}
 use Rattle.board.specs.Runs.{Plays}
 use Rattle.call.specs.declared.call.Call.{Call}
-use Rattle.job.specs.Jobs.{calls_of, rest, first}
-use Rattle.play.proofs.Turns.{read_call, all_read, fewer}
+use Rattle.job.specs.Jobs.{calls_of, rest}
+use Rattle.play.proofs.Turns.{read_call, all_read}
 use Rattle.play.proofs.player.play_all.Goals as goal
 
-pub bounds-answers-made : goal.bounds-answers-made
-bounds-answers-made g c =
-    let read = read_call (calls_of c.args.job) c.loop-call.made c.in-Some.call (c.in-Some.ensures.value ∙ ap first c.loop-call.invariant.2) in
-    omega (arith, read.there, c.requires.1, c.loop-call.invariant.0)
+pub loop-at-init : goal.loop-at-init
+loop-at-init g c =
+    rw (c.into_iter-at-iterator.ensures.into_iter_gives, c.enumerate-at-items.ensures.source, c.enumerate-at-items.ensures.count)
+    (omega arith, c.requires.0, plays_none g.P.PageStore.words g.S.Signature.operations c.args.board.now c.args.answers.now)
 
-pub loop-call-smaller : goal.loop-call-smaller
-loop-call-smaller g c =
-    fewer (rest c.loop-call.job) (rest c.next_call.new.self) c.in-Some.call c.in-Some.ensures.value c.next_call.ensures.after
-
-pub loop-call-preserved : goal.loop-call-preserved
-loop-call-preserved g c =
+pub loop-at-preserved : goal.loop-at-preserved
+loop-at-preserved g c =
     let words = g.P.PageStore.words in
     let ops = g.S.Signature.operations in
     let calls = calls_of c.args.job in
-    let made = c.loop-call.made in
-    let read = read_call calls made c.in-Some.call (c.in-Some.ensures.value ∙ ap first c.loop-call.invariant.2) in (
-      ap (λ (n : ℕ). n) (length-set _ _ _) ∙ c.loop-call.invariant.0,
+    let at = c.loop-at.at-iterator.count in
+    let steps = c.in-Some.ensures.steps in
+    let read = read_call calls at c.in-Some.call _ (sym c.loop-at.invariant.1 ∙ steps.0) in
+    let table = c.args.answers.now in
+    let answer = c.«record».result.answer in
+    subst (λ (n : ℕ). (n ≤ length calls) × (rest c.next.new.self.iter ≡ drop n calls) × Plays words ops c.args.board.now c.«record».new.self (take n calls) table (slice_set c.loop-at.answers c.in-Some.at c.«record».result)) (sym steps.2) (
       omega (arith, read.there),
-      c.next_call.ensures.after ∙ (ap (drop 1) c.loop-call.invariant.2 ∙ rw add-one read.past),
-      plays_next words ops c.args.board.now c.loop-call.board c.«record».new.self calls made c.in-Some.call c.«record».result.answer c.«record».result c.args.answers.now c.loop-call.answers
+      rw add-one read.past,
+      subst (λ (k : ℕ). Plays words ops c.args.board.now c.«record».new.self (take (at + 1) calls) table (slice_set c.loop-at.answers k c.«record».result)) (sym steps.1)
+          (plays_next words ops c.args.board.now c.loop-at.board c.«record».new.self calls at c.in-Some.call answer c.«record».result table c.loop-at.answers
           read.there
           (omega (arith, read.there, c.requires.1))
-          c.loop-call.invariant.3
-          (subst (λ (k : Call). Obeys words ops c.loop-call.board c.«record».new.self k c.«record».result.answer) read.stands c.«record».ensures.obeys)
-          (subst (λ (k : Call). c.«record».result ≡ record_of k c.«record».result.answer) read.stands c.«record».ensures.value),
+          c.loop-at.invariant.2
+          (subst (λ (k : Call). Obeys words ops c.loop-at.board c.«record».new.self k answer) read.stands c.«record».ensures.obeys)
+          (subst (λ (k : Call). c.«record».result ≡ record_of k answer) read.stands c.«record».ensures.value)),
     )
 
-pub returns : goal.returns
-returns g c =
+pub returns-clause-plays : goal.returns-clause-plays
+returns-clause-plays g c =
     let words = g.P.PageStore.words in
     let ops = g.S.Signature.operations in
     let calls = calls_of c.args.job in
-    let over = all_read calls c.loop-call.made (c.in_default.ensures.value ∙ ap first c.loop-call.invariant.2) in
-    let all : c.loop-call.made ≡ length calls = omega (arith, over, c.loop-call.invariant.1) in
-    record {
-      made = all;
-      plays =
-          subst (λ (cs : _). Plays words ops c.args.board.now c.loop-call.board cs c.args.answers.now c.loop-call.answers) (take_all c.loop-call.made calls (omega (arith, over)))
-          c.loop-call.invariant.3;
-    }
+    let at = c.loop-at.at-iterator.count in
+    let over = all_read calls at (sym c.loop-at.invariant.1 ∙ c.in-None.ensures.steps.0.0) in
+    subst (λ (cs : _). Plays words ops c.args.board.now c.loop-at.board cs c.args.answers.now c.loop-at.answers) (take_all at calls over)
+    c.loop-at.invariant.2
