@@ -8,7 +8,7 @@ use Rattle.races.specs.Remembered.{Remembers}
 use Rattle.rules.specs.State.{Accessed, Lock, Memory, State}
 use Rattle.rules.specs.Steps.{Operations, outcome}
 use Rattle.word.specs.declared.word.Word.{Word}
-use Rattle.board.specs.Obeying.{Checks, Left, Obeys, Performs, Decides, refused_by}
+use Rattle.board.specs.Obeying.{Checks, Left, Obeys, Performs, refused_by}
 use Rattle.board.specs.Views.{setting_of, view}
 use Rattle.board.specs.declared.board.Board.{Board}
 
@@ -44,8 +44,3 @@ module _ {P S : Type 0} (words : P → List Word) (ops : Operations S) where
         rules = λ accesses m.
             subst (λ (o : Option Refusal). Left words ops before after a (outcome o (setting_of before) (ops.holds before.signature) (view words before accesses) c)) (told accesses m) (p.rules accesses m);
       }
-
-  -- what a check that tells the rows is good for
-  pub check_decides : {X : Type 0} (b : Board P S) (c : Call) (r : Result X Refusal) → Checks b c (refused_by r) → Decides words ops b c r
-  check_decides b c (Ok x) told = λ after a p. performed_obeys b after c a told p
-  check_decides b c (Err e) told = refused_obeys b c e told

@@ -49,12 +49,6 @@ module _ {P S : Type 0} (words : P → List Word) (ops : Operations S) where
         (accesses : List Accessed) → Remembers before.races accesses
         → Left before after a (outcome None (setting_of before) (ops.holds before.signature) (view words before accesses) c)
 
-  -- what a check is good for: a call that it lets pass obeys where it is performed, and one that it refuses obeys where nothing is
-  -- done
-  abbrev pub Decides : {X : Type 0} → Board P S → Call → Result X Refusal → Type 0
-  Decides b c (Ok x) = (after : Board P S) (a : Result Answer Refusal) → Performs b after c a → Obeys b after c a
-  Decides b c (Err r) = Obeys b b c (Err r)
-
 -- nothing is altered: figures and size, page words, copies, owners, locks, counts, plan, accesses and signature are as they were
 pub record Unaltered {P S : Type 0} (words : P → List Word) (before after : Board P S) : Type 0 where
   pub figures : after.memory.figures ≡ before.memory.figures

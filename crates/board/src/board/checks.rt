@@ -13,7 +13,7 @@ ghost use Rattle.rules.specs.Refusals.{as_race, earliest, waits, holds as holder
 ghost use Rattle.rules.specs.State.{Accessed};
 ghost use Rattle.rules.specs.Tables.{first, when};
 ghost use Rattle.board.specs.Checking.{load_rows, store_rows};
-ghost use Rattle.board.specs.Obeying.{Checks, Decides, refused_by};
+ghost use Rattle.board.specs.Obeying.{Checks, refused_by};
 ghost use Rattle.board.specs.Views.{counts_of};
 
 use super::Board;
@@ -119,7 +119,7 @@ impl<P: PageStore, S: Signature> Board<P, S> {
     }
 
     // Rows 1 and 2: the board has the core and the word.
-    fn check_word(&self, core: u8, word: u16) -> Result<(), Refusal>
+    pub(super) fn check_word(&self, core: u8, word: u16) -> Result<(), Refusal>
         ensures told { Checks self.now (calls.Evict core word) (refused_by result) }
         ensures within { OnOk result ((core < 8) × (word < 4096)) }
     {
@@ -131,7 +131,7 @@ impl<P: PageStore, S: Signature> Board<P, S> {
     }
 
     // Rows 1, 2, 3, 5 and 6: beyond that the core does not wait, and the strip's mode admits the load.
-    fn check_load_rows(&self, core: u8, word: u16) -> Result<(), Refusal>
+    pub(super) fn check_load(&self, core: u8, word: u16) -> Result<(), Refusal>
         ensures told { Checks self.now (calls.Load core word) (refused_by result) }
         ensures within { OnOk result ((core < 8) × (word < 4096)) }
     {
@@ -141,7 +141,7 @@ impl<P: PageStore, S: Signature> Board<P, S> {
     }
 
     // Rows 1 to 7: beyond that the strip's mode admits the store, and the core's allowance is not spent.
-    fn check_store_rows(&self, core: u8, word: u16) -> Result<(), Refusal>
+    pub(super) fn check_store(&self, core: u8, word: u16) -> Result<(), Refusal>
         ensures told { (value : ℕ) → Checks self.now (calls.Store core word value) (refused_by result) }
         ensures within { OnOk result ((core < 8) × (word < 4096)) }
         ensures allowed { OnOk result (counts_of self.now.counts core < 1000000) }
@@ -153,7 +153,7 @@ impl<P: PageStore, S: Signature> Board<P, S> {
     }
 
     // Rows 11 and 12: the plan has lawful modes, and no lock is held.
-    fn check_phase_rows(&self, plan: u64) -> Result<(), Refusal>
+    pub(super) fn check_phase(&self, plan: u64) -> Result<(), Refusal>
         ensures { Checks self.now (calls.Phase plan) (refused_by result) }
     {
         if has_bad_mode(plan) {
@@ -163,37 +163,5 @@ impl<P: PageStore, S: Signature> Board<P, S> {
             return Err(Refusal::LockHeld);
         }
         Ok(())
-    }
-
-    // The check of a load decides what becomes of it.
-    pub(super) fn check_load(&self, core: u8, word: u16) -> Result<(), Refusal>
-        ensures decides { Decides P.words S.operations self.now (calls.Load core word) result }
-        ensures within { OnOk result ((core < 8) × (word < 4096)) }
-    {
-        self.check_load_rows(core, word)
-    }
-
-    // The check of a store.
-    pub(super) fn check_store(&self, core: u8, word: u16) -> Result<(), Refusal>
-        ensures decides { (value : ℕ) → Decides P.words S.operations self.now (calls.Store core word value) result }
-        ensures within { OnOk result ((core < 8) × (word < 4096)) }
-        ensures allowed { OnOk result (counts_of self.now.counts core < 1000000) }
-    {
-        self.check_store_rows(core, word)
-    }
-
-    // The check of an evict.
-    pub(super) fn check_evict(&self, core: u8, word: u16) -> Result<(), Refusal>
-        ensures decides { Decides P.words S.operations self.now (calls.Evict core word) result }
-        ensures within { OnOk result ((core < 8) × (word < 4096)) }
-    {
-        self.check_word(core, word)
-    }
-
-    // The check of a phase call.
-    pub(super) fn check_phase(&self, plan: u64) -> Result<(), Refusal>
-        ensures { Decides P.words S.operations self.now (calls.Phase plan) result }
-    {
-        self.check_phase_rows(plan)
     }
 }

@@ -78,7 +78,7 @@ impl<P: PageStore, S: Signature> Board<P, S> {
     pub fn evict(&mut self, core: u8, word: u16) -> Result<u8, Refusal>
         ensures { Obeys P.words S.operations self.old self.new (Evict core word) (of_other result) }
     {
-        self.check_evict(core, word)?;
+        self.check_word(core, word)?;
         Ok(self.give_up(core, word))
     }
 }
