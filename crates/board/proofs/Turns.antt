@@ -7,12 +7,12 @@ use Rattle.locks.specs.Acquire.{acquire_rows}
 use Rattle.locks.specs.Refused.{answered, left}
 use Rattle.locks.specs.Release.{release_rows}
 use Rattle.locks.specs.Rows.{granted, passed_to}
-use Rattle.locks.specs.declared.grant.Grant.TheVariants.{Granted, Queued}
+use Rattle.locks.specs.declared.grant.Grant.{Grant}
 use Rattle.rules.specs.Refusals.{waits, holds, holds_some}
 use Rattle.rules.specs.State.{Lock}
-use Rattle.rules.specs.Steps.{Change, takes_from, granted_changes, handed_changes, queued_answer, passed_answer}
+use Rattle.rules.specs.Steps.{granted_changes, handed_changes, queued_answer, passed_answer}
 use Rattle.rules.specs.Tables.{first, when}
-use Rattle.board.specs.Turns.{handed_on, passed_number}
+use Rattle.board.specs.Turns.{taken_on, grant_number, handed_on, passed_number}
 use Rattle.board.proofs.Checks.{row_past}
 
 -- two readings of whether there is such a core, both passed, and the same rows after
@@ -46,14 +46,10 @@ left_refused o r before after e = subst (λ (p : Option Refusal). left p before 
 pub left_done : (o : Option Refusal) (before after : ℕ → Lock) → None ≡ o → left o before after ≡ after
 left_done o before after e = subst (λ (p : Option Refusal). left p before after ≡ after) e refl
 
--- a grant tells that the lock was free, and its last releaser
-pub grant_tells : (holder last : Option ℕ) (lock : Lock) (core : ℕ) → Granted last ≡ granted holder lock → (0 ≡ queued_answer holder) × (takes_from last core ≡ granted_changes holder lock core)
-grant_tells None last lock core e = let same : last ≡ lock.last = cc in (refl, ap (λ (o : Option ℕ). takes_from o core) same)
-grant_tells (Some h) last lock core e = let z : ◌≡◌ {A = ℕ} 0 1 = cc in let no_way : ⊥ = omega arith in absurd no_way
-
-pub queue_tells : (holder : Option ℕ) (lock : Lock) (core : ℕ) → Queued ≡ granted holder lock → (1 ≡ queued_answer holder) × (◌≡◌ {A = List Change} [] (granted_changes holder lock core))
-queue_tells None lock core e = let z : ◌≡◌ {A = ℕ} 0 1 = cc in let no_way : ⊥ = omega arith in absurd no_way
-queue_tells (Some h) lock core e = (refl, refl)
+-- what is granted tells whether the lock was free, and its last releaser
+pub grant_tells : (holder : Option ℕ) (lock : Lock) (grant : Grant) (core : ℕ) → grant ≡ granted holder lock → (grant_number grant ≡ queued_answer holder) × (taken_on grant core ≡ granted_changes holder lock core)
+grant_tells None lock grant core e = (ap grant_number e, ap (λ (x : Grant). taken_on x core) e)
+grant_tells (Some h) lock grant core e = (ap grant_number e, ap (λ (x : Grant). taken_on x core) e)
 
 -- the core that a lock passes to is the first in its queue
 pub passed_tells : (queue : List ℕ) (next : Option ℕ) (core : ℕ) → next ≡ passed_to queue → (passed_number next ≡ passed_answer queue) × (handed_on next core ≡ handed_changes queue core)

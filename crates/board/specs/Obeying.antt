@@ -6,6 +6,7 @@ use Rattle.call.specs.declared.answer.Answer.TheVariants.{Loaded, Stored, Done}
 use Rattle.call.specs.declared.answer.AnswerRecord.{AnswerRecord}
 use Rattle.call.specs.declared.call.Call.{Call}
 use Rattle.call.specs.declared.refusal.Refusal.{Refusal}
+use Rattle.locks.specs.declared.grant.Grant.{Grant}
 use Rattle.memory.specs.Views as memory
 use Rattle.races.specs.Remembered.{Remembers}
 use Rattle.rules.specs.Refusals.{refusal}
@@ -14,6 +15,7 @@ use Rattle.rules.specs.Steps.{Operations, Outcome, outcome, step, changed_by}
 use Rattle.word.specs.declared.mark.Mark.{Mark}
 use Rattle.word.specs.declared.word.Word.{Word}
 use Rattle.board.specs.Memories.{RemembersSome}
+use Rattle.board.specs.Turns.{grant_number, passed_number}
 use Rattle.board.specs.Views.{setting_of, ledger_of, view}
 use Rattle.board.specs.declared.board.Board.{Board}
 
@@ -69,6 +71,16 @@ of_load (Err r) = Err r
 abbrev pub of_store : Result (ℕ × Mark) Refusal → Result Answer Refusal
 of_store (Ok p) = Ok (Stored p.0 p.1)
 of_store (Err r) = Err r
+
+-- what an acquire answers
+abbrev pub of_acquire : Result Grant Refusal → Result Answer Refusal
+of_acquire (Ok grant) = Ok (Done (grant_number grant))
+of_acquire (Err r) = Err r
+
+-- what a release answers
+abbrev pub of_release : Result (Option ℕ) Refusal → Result Answer Refusal
+of_release (Ok next) = Ok (Done (passed_number next))
+of_release (Err r) = Err r
 
 -- what any other call answers
 abbrev pub of_other : Result ℕ Refusal → Result Answer Refusal

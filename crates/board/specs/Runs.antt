@@ -45,14 +45,6 @@ module _ {P S : Type 0} (words : P → List Word) where
         (accesses : List Accessed) → Remembers before.races accesses
         → Shows after (play ops (setting_of before) (view words before accesses) before.signature calls)
 
-  -- the call at a place of some calls is played: where those before it were played, it is played too
-  abbrev pub Advances : Operations S → Board P S → Board P S → List Call → ℕ → List AnswerRecord → List AnswerRecord → Type 0
-  Advances ops before after calls at records more =
-      (start : Board P S) (table : List AnswerRecord)
-      → length records ≡ length table
-      → Plays ops start before (take at calls) table records
-      → Plays ops start after (take (at + 1) calls) table more
-
   -- calls played on a board just opened with these figures on this page, into a table: each call's record stands in the table, later
   -- records keep their contents, the board is what the rules leave, and it is a run, of which all laws hold
   pub record Runs (ops : Operations S) (f : Five) (page : List Word) (g : S) (calls : List Call) (table after : List AnswerRecord) (b : Board P S) : Type 0 where

@@ -1,7 +1,7 @@
 //! Whole runs: any list of calls on a board just opened, with the laws of runs.
-ghost use Rattle.std.specs.Prelude.{◌≡◌, ◌<◌, min, length, take};
+ghost use Rattle.std.specs.Prelude.{◌≡◌, min, length, take};
 ghost use Rattle.call.specs.Figures.{figures as numbers};
-ghost use Rattle.board.specs.Runs.{Plays, Advances, Runs};
+ghost use Rattle.board.specs.Runs.{Plays, Runs};
 
 use crate::board::Board;
 use call::{AnswerRecord, Call, Figures};
@@ -15,19 +15,6 @@ pub struct Run<P, S> {
     pub made: usize,
 }
 
-// Makes the next of some calls, and enters its record in the table.
-fn advance<P: PageStore, S: Signature>(
-    board: &mut Board<P, S>,
-    calls: &[Call],
-    answers: &mut [AnswerRecord],
-    at: usize,
-)
-    requires { (at < length calls.now) × (at < length answers.old) }
-    ensures { Advances P.words S.operations board.old board.new calls.now at answers.old answers.new }
-{
-    answers[at] = board.record(calls[at]);
-}
-
 // Makes calls on a board in turn, as many as there are and the table has room for: their number.
 fn play<P: PageStore, S: Signature>(
     board: &mut Board<P, S>,
@@ -38,8 +25,8 @@ fn play<P: PageStore, S: Signature>(
     ensures plays { Plays P.words S.operations board.old board.new (take result calls.now) answers.old answers.new }
 {
     let most = calls.len().min(answers.len());
-    for at in 0..most {
-        advance(board, calls, answers, at);
+    for (at, call) in calls[..most].iter().enumerate() {
+        answers[at] = board.record(*call);
     }
     most
 }

@@ -4,6 +4,7 @@ ghost use Rattle.board.specs.Obeying.{record_of, Obeys};
 
 use super::Board;
 use call::{Answer, AnswerRecord, Call, Refusal};
+use locks::Grant;
 use page::PageStore;
 use signature::Signature;
 
@@ -22,8 +23,14 @@ impl<P: PageStore, S: Signature> Board<P, S> {
                 Answer::Stored(answer, mark)
             }
             Call::Evict(core, word) => Answer::Done(self.evict(core, word)? as u16),
-            Call::Acquire(core, lock) => Answer::Done(self.acquire(core, lock)? as u16),
-            Call::Release(core, lock) => Answer::Done(self.release(core, lock)? as u16),
+            Call::Acquire(core, lock) => Answer::Done(match self.acquire(core, lock)? {
+                Grant::Granted(_) => 0,
+                Grant::Queued => 1,
+            }),
+            Call::Release(core, lock) => {
+                let next = self.release(core, lock)?;
+                Answer::Done(next.map_or(0, |next| next as u16 + 1))
+            }
             Call::Phase(plan) => Answer::Done(self.phase(plan)?),
             Call::Settle => Answer::Done(self.settle()),
         };

@@ -5,68 +5,54 @@ use Rattle.call.specs.declared.answer.Answer.TheVariants.{Done}
 use Rattle.locks.specs.Views.{locks_of}
 use Rattle.rules.specs.Steps.{changed_by}
 use Rattle.board.proofs.Performing.{same_state}
-use Rattle.board.proofs.Turns.{acquire_told, told_err, told_ok, left_refused, left_done, grant_tells, queue_tells}
+use Rattle.board.proofs.Turns.{acquire_told, told_err, told_ok, left_refused, left_done, grant_tells}
 use Rattle.board.proofs.board.Board.acquire.Goals as goal
 
-pub returns-in_err-last : goal.returns-in_err-last
-returns-in_err-last g c =
+pub returns-in_err-grant : goal.returns-in_err-grant
+returns-in_err-grant g c =
     let b = c.args.self.now in
-    let p = err_from_is_err_and c.from_residual-in_err-last.result c.from_residual-in_err-last.ensures.1 in
+    let p = err_from_is_err_and c.from_residual-in_err-grant.result c.from_residual-in_err-grant.ensures.1 in
     let rows = acquire_told (locks_of b.locks) (figures b.memory.figures).cores c.args.core c.args.lock c.in_ok-check_core.ensures.within c.in_ok-check_core.ensures.told in
-    let met = told_err _ _ _ c.in_err-last.ensures.answer in
+    let met = told_err _ _ _ c.in_err-grant.ensures.answer in
     rw (p.1, p.2)
     (record {
-      figures = refl;
-      size = refl;
-      some = b.some;
-      rules = λ accesses m.
-          rw (sym (met ∙ rows))
-          (record {
-            answer = refl;
-            state = same_state refl (c.in_err-last.ensures.after ∙ left_refused _ _ _ _ met) refl refl;
-            remembers = m;
-            signature = refl;
-          });
+      obeys =
+          record {
+            figures = refl;
+            size = refl;
+            some = b.some;
+            rules = λ accesses m.
+                rw (sym (met ∙ rows))
+                (record {
+                  answer = refl;
+                  state = same_state refl (c.in_err-grant.ensures.after ∙ left_refused _ _ _ _ met) refl refl;
+                  remembers = m;
+                  signature = refl;
+                });
+          };
+      grant = tt;
     })
 
-pub returns-in-Granted : goal.returns-in-Granted
-returns-in-Granted g c =
+pub returns : goal.returns
+returns g c =
     let b = c.args.self.now in
-    let ops = g.S.Signature.operations in
     let rows = acquire_told (locks_of b.locks) (figures b.memory.figures).cores c.args.core c.args.lock c.in_ok-check_core.ensures.within c.in_ok-check_core.ensures.told in
-    let got = told_ok _ _ _ c.in_ok-last.ensures.answer in
-    let tells = grant_tells (locks_of b.locks c.args.lock).holder c.in-Granted.last (locks_of b.locks c.args.lock) c.args.core (sym c.in-Granted.is ∙ got.1) in
+    let got = told_ok _ _ _ c.in_ok-grant.ensures.answer in
+    let tells = grant_tells (locks_of b.locks c.args.lock).holder (locks_of b.locks c.args.lock) c.in_ok-grant.grant c.args.core got.1 in
     record {
-      figures = refl;
-      size = refl;
-      some = b.some;
-      rules = λ accesses m.
-          rw (sym (got.0 ∙ rows))
-          (record {
-            answer = ap (λ n. Ok (Done n)) tells.0;
-            state = same_state refl (c.in_ok-last.ensures.after ∙ left_done _ _ _ got.0) refl refl;
-            remembers = m;
-            signature = c.take_from.ensures ∙ ap (changed_by ops b.signature) tells.1;
-          });
-    }
-
-pub returns-in-Queued : goal.returns-in-Queued
-returns-in-Queued g c =
-    let b = c.args.self.now in
-    let ops = g.S.Signature.operations in
-    let rows = acquire_told (locks_of b.locks) (figures b.memory.figures).cores c.args.core c.args.lock c.in_ok-check_core.ensures.within c.in_ok-check_core.ensures.told in
-    let got = told_ok _ _ _ c.in_ok-last.ensures.answer in
-    let tells = queue_tells (locks_of b.locks c.args.lock).holder (locks_of b.locks c.args.lock) c.args.core (sym c.in-Queued.is ∙ got.1) in
-    record {
-      figures = refl;
-      size = refl;
-      some = b.some;
-      rules = λ accesses m.
-          rw (sym (got.0 ∙ rows))
-          (record {
-            answer = ap (λ n. Ok (Done n)) tells.0;
-            state = same_state refl (c.in_ok-last.ensures.after ∙ left_done _ _ _ got.0) refl refl;
-            remembers = m;
-            signature = ap (changed_by ops b.signature) tells.1;
-          });
+      obeys =
+          record {
+            figures = refl;
+            size = refl;
+            some = b.some;
+            rules = λ accesses m.
+                rw (sym (got.0 ∙ rows))
+                (record {
+                  answer = ap (λ n. Ok (Done n)) tells.0;
+                  state = same_state refl (c.in_ok-grant.ensures.after ∙ left_done _ _ _ got.0) refl refl;
+                  remembers = m;
+                  signature = c.take_on.ensures ∙ ap (changed_by g.S.Signature.operations b.signature) tells.1;
+                });
+          };
+      grant = got.1;
     }

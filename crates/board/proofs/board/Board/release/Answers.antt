@@ -43,9 +43,9 @@ returns g c =
       rules = λ accesses m.
           rw (sym (got.0 ∙ rows))
           (record {
-            answer = ap (λ n. Ok (Done n)) (c.hand_on.ensures.answer ∙ tells.0);
+            answer = ap (λ n. Ok (Done n)) tells.0;
             state = same_state refl (c.in_ok-next.ensures.after ∙ left_done _ _ _ got.0) refl refl;
             remembers = m;
-            signature = c.hand_on.ensures.after ∙ ap (changed_by ops b.signature) tells.1;
+            signature = c.hand_on.ensures ∙ ap (changed_by ops b.signature) tells.1;
           });
     }
