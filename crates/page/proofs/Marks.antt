@@ -1,16 +1,10 @@
--- A mark is its number, so the mark of number 0 is the blank one, and a number reads as the one mark that has it.
+-- A mark is its number, so a number reads as the one mark that has it.
 -- Assumes nothing.
 use Rattle.std.proofs.Common.{◌≡◌, ℕ, Bool, true, false, cond, Some, None, sym, refl, ◌∙◌, arith}
 use Rattle.word.proofs.Marks.{same_mark}
 use Rattle.word.specs.Lawful.{lawful}
 use Rattle.word.specs.Marks.{number, mark_by, mark_at}
 use Rattle.word.specs.declared.mark.Mark.{Mark}
-use Rattle.word.specs.declared.word.Word.{Word}
-use Rattle.word.specs.Words.{blank_mark, blank_word}
-
--- a word of value 0 whose mark's number is 0 is the blank word
-pub blank_from_zero : (x : Word) → x.value ≡ 0 → number x.mark ≡ 0 → x ≡ blank_word
-blank_from_zero x value mark = λ i. record { value = value i; mark = same_mark x.mark blank_mark mark i }
 
 -- a number reads as the mark of that number, or of 0
 pub number_mark_read : (n : ℕ) → number (mark_at n) ≡ cond (lawful n) n 0

@@ -3,23 +3,11 @@ ghost use Rattle.std.specs.Prelude.{◌≡◌, ◌≤◌, length, replicate, nat
 ghost use Rattle.page.specs.Sizes.{at_most};
 ghost use Rattle.page.specs.Pages.{read_answer, write_answer};
 ghost use Rattle.word.specs.Words.{blank_word};
-ghost use Rattle.word.specs.Marks.{number};
 
 use super::Table;
 use crate::outside::Outside;
 use crate::store::PageStore;
-use word::{Mark, Word};
-
-// A word of value 0 that no core has stored.
-fn blank_word() -> Word
-    ensures value { result.value ≡ 0 }
-    ensures mark { number result.mark ≡ 0 }
-{
-    Word {
-        value: 0,
-        mark: Mark::blank(),
-    }
-}
+use word::Word;
 
 // Whether a place is below the size.
 fn is_inside(place: u16) -> bool
@@ -33,9 +21,8 @@ impl Table {
     pub fn new() -> Table
         ensures { result.cells ≡ replicate 4096 blank_word }
     {
-        let blank = blank_word();
         Table {
-            cells: [blank; 4096],
+            cells: [Word::blank(); 4096],
         }
     }
 
