@@ -8,11 +8,11 @@ use Rattle.std.proofs.lemmas.List.FromFn.{length-map-range_with_len, get_or-map-
 use Rattle.std.proofs.lemmas.Bool.{cond_below, cond_above, cases_lt, cases_order}
 use Rattle.word.specs.declared.word.Word.{Word}
 use Rattle.page.specs.ByteWords.{group_at, byte_size, byte_words, bytes_after}
-use Rattle.page.specs.Groups.{group_bytes, group_word}
+use Rattle.word.specs.Groups.{group_bytes, group_word}
 use Rattle.page.specs.Pages.{read_answer, outside}
 use Rattle.word.specs.Words.{blank_word}
 use Rattle.page.specs.declared.outside.Outside.{Outside}
-use Rattle.page.proofs.Groups.{group_back}
+use Rattle.word.proofs.Groups.{group_back}
 
 -- bytes spell a word for each whole group, 4,096 at most
 pub length_words : (bytes : List ℕ) → length (byte_words bytes) ≡ byte_size bytes

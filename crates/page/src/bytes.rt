@@ -4,7 +4,6 @@ ghost use Rattle.page.specs.ByteWords.{byte_size, byte_words, bytes_after};
 ghost use Rattle.page.specs.Pages.{read_answer, write_answer};
 ghost use Rattle.page.specs.Sizes.{bytes_at_most};
 
-use crate::group::{bytes_of, word_of};
 use crate::outside::Outside;
 use crate::store::PageStore;
 use word::Word;
@@ -55,7 +54,7 @@ impl<'a> Bytes<'a> {
         let at = start_of(place);
         let mut group = [0; 8];
         group.copy_from_slice(&self.bytes[at..at + 8]);
-        Ok(word_of(group))
+        Ok(Word::from(group))
     }
 }
 
@@ -89,7 +88,7 @@ impl PageStore for Bytes<'_> {
             return Err(Outside);
         }
         let at = start_of(place);
-        let group = bytes_of(word);
+        let group = <[u8; 8]>::from(word);
         self.bytes[at..at + 8].copy_from_slice(&group);
         Ok(())
     }

@@ -1,14 +1,11 @@
 //! The sizes of byte stores, groups with unlawful marks, two words of one slot, and a list played through two banks.
 use crate::examples::{put_in_bytes, through_to_bytes};
-use page::{Access, Bank, Bytes, Outside, PageStore, Reply, Table, play_and_drain, word_of};
+use page::{Access, Bank, Bytes, Outside, PageStore, Reply, Table, play_and_drain};
 use word::{Mark, Word};
 
 // A word of a value and a mark's number, blank for a number that no mark has.
 fn word(value: u32, number: u32) -> Word {
-    let mark = match Mark::from_number(number) {
-        Some(mark) => mark,
-        None => Mark::blank(),
-    };
+    let mark = Mark::try_from(number).unwrap_or(Mark::blank());
     Word { value, mark }
 }
 
@@ -32,9 +29,9 @@ fn a_size_counts_whole_groups_up_to_4096(rt: HostRuntime) {
 #[test]
 fn an_unlawful_mark_reads_as_blank(rt: HostRuntime) {
     let blank = word(9, 0);
-    assert_eq!(rt; word_of([0, 0, 0, 9, 0, 16, 0, 0]), blank);
-    assert_eq!(rt; word_of([0, 0, 0, 9, 0, 127, 66, 65]), blank);
-    assert_eq!(rt; word_of([0, 0, 0, 9, 0, 127, 66, 64]), word(9, 8_340_032));
+    assert_eq!(rt; Word::from([0, 0, 0, 9, 0, 16, 0, 0]), blank);
+    assert_eq!(rt; Word::from([0, 0, 0, 9, 0, 127, 66, 65]), blank);
+    assert_eq!(rt; Word::from([0, 0, 0, 9, 0, 127, 66, 64]), word(9, 8_340_032));
 }
 
 #[test]

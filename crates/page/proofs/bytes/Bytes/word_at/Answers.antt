@@ -8,10 +8,10 @@ slice_bounds-copy_from_slice-end-2 c = omega (arith, length_words c.args.self.no
 pub returns : goal.returns
 returns c =
     let at = c.start_of-at.result in
-    read_inside c.args.self.now.bytes.now c.args.place at (at + 8 - at) c.word_of.result
+    read_inside c.args.self.now.bytes.now c.args.place at (at + 8 - at) c.from.result
     c.copy_from_slice.new.self
     (omega arith)
     c.start_of-at.ensures
     (omega arith)
-    c.word_of.ensures
+    c.from.ensures
     c.copy_from_slice.ensures.after

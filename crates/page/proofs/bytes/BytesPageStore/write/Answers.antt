@@ -25,7 +25,7 @@ returns c =
     (omega arith)
     c.start_of-at.ensures
     (omega arith)
-    (c.copy_from_slice.ensures.after ∙ c.bytes_of-group.ensures.value) in
+    (c.copy_from_slice.ensures.after ∙ c.from-group.ensures.value) in
     record {
       answer = search rules;
       after = ap byte_words written ∙ words_after bytes c.args.place c.args.word (search rules);
