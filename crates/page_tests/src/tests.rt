@@ -75,17 +75,17 @@ fn a_list_is_played_on_a_bank_over_a_bank(rt: HostRuntime) {
         Access::Read(5),
         Access::Write(4096, sent),
     ];
-    let mut replies = [Reply::Outside; 5];
+    let mut replies = [Err(Outside); 5];
     let mut bank = Bank::new(Bank::new(Table::new()));
     assert_eq!(rt; play_and_drain(&mut bank, &accesses, &mut replies), 4);
     assert_eq!(rt;
         replies,
         [
-            Reply::Gave(word(0, 0)),
-            Reply::Written,
-            Reply::Gave(sent),
-            Reply::Outside,
-            Reply::Outside,
+            Ok(Reply::Gave(word(0, 0))),
+            Ok(Reply::Written),
+            Ok(Reply::Gave(sent)),
+            Err(Outside),
+            Err(Outside),
         ]
     );
     let table = bank.into_below().into_below();
