@@ -70,7 +70,3 @@ module _ (slots : List Slot) (below : List Word) (k : ℕ) where
       ap (λ (ss : List Slot). laid (set ss (k % 128) (Some (record { place = k; word = x }))) below') e
       ∙ ap (laid (set slots (k % 128) (Some (record { place = k; word = x })))) f
       ∙ filled slots below full lies k x h
-
--- equal slots over equal lists mean one list
-pub laid_same : (slots : List Slot) (below : List Word) (slots' : List Slot) (below' : List Word) → slots' ≡ slots → below' ≡ below → laid slots' below' ≡ laid slots below
-laid_same slots below slots' below' e f = ap (λ (ss : List Slot). laid ss below') e ∙ ap (laid slots) f

@@ -1,18 +1,19 @@
 -- The words that bytes spell, place by place: word k is that of the 8 bytes from 8 k on. A write of 8 bytes there gives
 -- word k, and since groups do not overlap, every other word keeps its bytes. Assumes nothing.
-use Rattle.std.proofs.Common.{◌≡◌, ℕ, ◌+◌, ◌*◌, ◌/◌, ◌^◌, ◌<◌, ◌≤◌, min, ◌≢◌, List, ◌++◌, length, get_or, take, drop, set, Ok, Err, Result, sym, refl, ap, ◌∙◌, ⊎_elim, arith}
+use Rattle.std.proofs.Common.{◌≡◌, ℕ, zero, suc, ◌+◌, ◌*◌, ◌/◌, ◌^◌, ◌<◌, ◌≤◌, min, ◌≢◌, List, ◌++◌, length, get_or, take, drop, set, Ok, Err, Result, sym, refl, ap, ◌∙◌, ⊎_elim, arith}
 use borrow.Rule.Slice.PartMut.{put_mid}
 use Rattle.std.proofs.lemmas.List.{drop-drop, drop_at, drop-take, take_at, length-append, length-take, length-take-le, length-drop, length-set, ext_get_or, get_or-set_same, get_or-set_other, set_past}
 use Rattle.std.proofs.lemmas.Slice.{take-put_mid_below, drop-put_mid}
 use Rattle.std.proofs.lemmas.List.FromFn.{length-map-range_with_len, get_or-map-range_with_len}
 use Rattle.std.proofs.lemmas.Bool.{cond_below, cond_above, cases_lt, cases_order}
+use Rattle.std.specs.Simd.{first_chunks}
 use Rattle.word.specs.declared.word.Word.{Word}
 use Rattle.page.specs.ByteWords.{group_at, byte_size, byte_words, bytes_after}
-use Rattle.page.specs.Groups.{group_bytes, group_word}
+use Rattle.word.specs.Groups.{group_bytes, group_word}
 use Rattle.page.specs.Pages.{read_answer, outside}
 use Rattle.word.specs.Words.{blank_word}
 use Rattle.page.specs.declared.outside.Outside.{Outside}
-use Rattle.page.proofs.Groups.{group_back}
+use Rattle.word.proofs.Groups.{group_back}
 
 -- bytes spell a word for each whole group, 4,096 at most
 pub length_words : (bytes : List ℕ) → length (byte_words bytes) ≡ byte_size bytes
@@ -22,11 +23,20 @@ length_words bytes = length-map-range_with_len (λ k. group_word (group_at bytes
 pub word_at : (bytes : List ℕ) (k : ℕ) (d : Word) → k < byte_size bytes → get_or (byte_words bytes) k d ≡ group_word (group_at bytes k)
 word_at bytes k d h = get_or-map-range_with_len (λ p. group_word (group_at bytes p)) 0 (byte_size bytes) k k d h (omega arith)
 
--- a read inside gives the word of the 8 bytes there
-pub read_inside : (bytes : List ℕ) (k at n : ℕ) (x : Word) (group : List ℕ) → k < length (byte_words bytes) → at ≡ k * 8 → n ≡ 8 → x ≡ group_word group → group ≡ take n (drop at bytes) → ◌≡◌ {A = Result Word Outside} (Ok x) (read_answer (byte_words bytes) k)
-read_inside bytes k at n x group h start eight spells e =
+-- the bytes as arrays of 8 are the groups
+chunk_at : (n : ℕ) (bytes : List ℕ) (k : ℕ) (d : List ℕ) → k < n → get_or (first_chunks 8 n bytes) k d ≡ group_at bytes k
+chunk_at zero bytes k d h = let no_way : ⊥ = omega arith in absurd no_way
+chunk_at (suc n) bytes zero d h = refl
+chunk_at (suc n) bytes (suc k) d h =
+    let next : 8 + k * 8 ≡ suc k * 8 = omega arith in
+    chunk_at n (drop 8 bytes) k d (omega arith) ∙ ap (take 8) (drop-drop (k * 8) 8 bytes)
+    ∙ ap (λ (m : ℕ). take 8 (drop m bytes)) next
+
+-- a read inside gives the word of the group there
+pub read_inside : (bytes : List ℕ) (k : ℕ) (x : Word) (groups : List (List ℕ)) (d : List ℕ) → k < length (byte_words bytes) → groups ≡ first_chunks 8 (length bytes / 8) bytes → x ≡ group_word (get_or groups k d) → ◌≡◌ {A = Result Word Outside} (Ok x) (read_answer (byte_words bytes) k)
+read_inside bytes k x groups d h e spells =
     let lt : k < byte_size bytes = omega (arith, length_words bytes) in
-    let there = e ∙ ap (λ (m : ℕ). take m (drop at bytes)) eight ∙ ap (λ (m : ℕ). take 8 (drop m bytes)) start in
+    let there = ap (λ (gs : List (List ℕ)). get_or gs k d) e ∙ chunk_at (length bytes / 8) bytes k d (omega arith) in
     let found : Result Word Outside = Ok (get_or (byte_words bytes) k blank_word) in
     ap Ok (spells ∙ ap group_word there ∙ sym (word_at bytes k blank_word lt))
     ∙ cond_below k (length (byte_words bytes)) found (Err outside) h
@@ -120,9 +130,9 @@ words_after bytes k x fits = ⊎_elim inside past (cases_lt k (byte_size bytes))
         ∙ sym (set_past (byte_words bytes) k x long)
 
 -- a write inside leaves the bytes with the word's group in the middle
-pub bytes_inside : (bytes : List ℕ) (k at n : ℕ) (x : Word) (group : List ℕ) → k < length (byte_words bytes) → at ≡ k * 8 → n ≡ 8 → group ≡ group_bytes x → put_mid at n bytes group ≡ bytes_after bytes k x
-bytes_inside bytes k at n x group h start eight e =
-    ap (λ (m : ℕ). put_mid m n bytes group) start ∙ put_is bytes k n group eight ∙ ap (put bytes k) e
+pub bytes_inside : (bytes : List ℕ) (k n : ℕ) (x : Word) (group : List ℕ) → k < length (byte_words bytes) → n ≡ 8 → group ≡ group_bytes x → put_mid (k * 8) n bytes group ≡ bytes_after bytes k x
+bytes_inside bytes k n x group h eight e =
+    put_is bytes k n group eight ∙ ap (put bytes k) e
     ∙ cond_below k (byte_size bytes) (put bytes k (group_bytes x)) bytes (omega (arith, length_words bytes))
 
 -- a write past the last group leaves all bytes

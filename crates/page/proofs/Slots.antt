@@ -39,11 +39,7 @@ laid_empty slots below e =
     laid_at (replicate 128 None) below k blank_word lt
     ∙ ap (λ (s : Slot). shown s k (get_or below k blank_word)) (get_or-replicate 128 (k % 128) None None (mod-lt k (omega arith))))
 
--- empty slots are 128
-pub empty_full : (slots : List Slot) → slots ≡ replicate 128 None → length slots ≡ 128
-empty_full slots e = ap length e
-
--- and in them everything lies where it must
+-- in empty slots everything lies where it must
 pub empty_lies : (slots : List Slot) → slots ≡ replicate 128 None → (i : ℕ) → in_slot i (get_or slots i None) ≡ true
 empty_lies slots e i = ap (λ (ss : List Slot). in_slot i (get_or ss i None)) e ∙ ⊎_elim inside past (cases_lt i 128)
   where

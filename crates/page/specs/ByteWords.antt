@@ -2,7 +2,7 @@
 use Rattle.std.specs.Prelude.{ℕ, ◌+◌, ◌*◌, ◌/◌, min, cond, List, ◌++◌, map, length, take, drop, nat_lt}
 use Rattle.std.specs.List.{range_with_len}
 use Rattle.word.specs.declared.word.Word.{Word}
-use Rattle.page.specs.Groups.{group_bytes, group_word}
+use Rattle.word.specs.Groups.{group_bytes, group_word}
 
 -- the group of 8 bytes at a place: the bytes from 8 times the place on
 abbrev pub group_at : List ℕ → ℕ → List ℕ

@@ -4,7 +4,6 @@ ghost use Rattle.page.specs.ByteWords.{byte_size, byte_words, bytes_after};
 ghost use Rattle.page.specs.Pages.{read_answer, write_answer};
 ghost use Rattle.page.specs.Sizes.{bytes_at_most};
 
-use crate::group::{bytes_of, word_of};
 use crate::outside::Outside;
 use crate::store::PageStore;
 use word::Word;
@@ -13,13 +12,6 @@ use word::Word;
 #[derive(Drop)]
 pub struct Bytes<'a> {
     bytes: &'a mut [u8],
-}
-
-// Where the group of a place starts among the bytes.
-fn start_of(place: u16) -> usize
-    ensures { result ≡ place * 8 }
-{
-    place as usize * 8
 }
 
 impl<'a> Bytes<'a> {
@@ -37,26 +29,6 @@ impl<'a> Bytes<'a> {
     {
         &*self.bytes
     }
-
-    // The number of whole groups, 4,096 at most.
-    fn groups(&self) -> u16
-        ensures { result ≡ byte_size self.now.bytes.now }
-    {
-        (self.bytes.len() / 8).min(4096) as u16
-    }
-
-    // The word at `place`, if it is below the size.
-    fn word_at(&self, place: u16) -> Result<Word, Outside>
-        ensures { result ≡ read_answer (byte_words self.now.bytes.now) place }
-    {
-        if place >= self.size() {
-            return Err(Outside);
-        }
-        let at = start_of(place);
-        let mut group = [0; 8];
-        group.copy_from_slice(&self.bytes[at..at + 8]);
-        Ok(word_of(group))
-    }
 }
 
 impl PageStore for Bytes<'_> {
@@ -67,7 +39,7 @@ impl PageStore for Bytes<'_> {
     fn size(&self) -> u16
         ensures { result ≡ length (byte_words self.now.bytes.now) }
     {
-        self.groups()
+        (self.bytes.len() / 8).min(4096) as u16
     }
 
     fn read(&mut self, place: u16) -> Result<Word, Outside>
@@ -76,7 +48,11 @@ impl PageStore for Bytes<'_> {
         ensures bytes { self.new.bytes.now ≡ self.old.bytes.now }
         ensures lent { self.new.bytes.ghost_name ≡ self.old.bytes.ghost_name }
     {
-        self.word_at(place)
+        if place >= self.size() {
+            return Err(Outside);
+        }
+        let (groups, _) = self.as_bytes().as_chunks::<8>();
+        Ok(Word::from(groups[place as usize]))
     }
 
     fn write(&mut self, place: u16, word: Word) -> Result<(), Outside>
@@ -88,9 +64,8 @@ impl PageStore for Bytes<'_> {
         if place >= self.size() {
             return Err(Outside);
         }
-        let at = start_of(place);
-        let group = bytes_of(word);
-        self.bytes[at..at + 8].copy_from_slice(&group);
+        let at = place as usize * 8;
+        self.bytes[at..at + 8].copy_from_slice(&<[u8; 8]>::from(word));
         Ok(())
     }
 }

@@ -5,28 +5,30 @@ ghost use Rattle.page.specs.Slots.{laid};
 
 use crate::access::{Access, Reply};
 use crate::bank::Bank;
+use crate::outside::Outside;
 use crate::store::PageStore;
 
 /// Makes one access to a store: it answers as the list that the store means would, and then means what that list becomes.
-pub fn serve<P: PageStore>(store: &mut P, access: Access) -> Reply
+pub fn serve<P: PageStore>(store: &mut P, access: Access) -> Result<Reply, Outside>
     ensures answer { result ≡ reply_of (P.words store.old) access }
     ensures after { P.words store.new ≡ list_after (P.words store.old) access }
 {
     match access {
-        Access::Read(place) => match store.read(place) {
-            Ok(word) => Reply::Gave(word),
-            Err(_) => Reply::Outside,
-        },
-        Access::Write(place, word) => match store.write(place, word) {
-            Ok(()) => Reply::Written,
-            Err(_) => Reply::Outside,
-        },
+        Access::Read(place) => Ok(Reply::Gave(store.read(place)?)),
+        Access::Write(place, word) => {
+            store.write(place, word)?;
+            Ok(Reply::Written)
+        }
     }
 }
 
 /// Plays accesses on a store in their order, as many as there is room for answers, and gives their number. The answers are
 /// those of the list that the store means; room past them is kept.
-pub fn play<P: PageStore>(store: &mut P, accesses: &[Access], replies: &mut [Reply]) -> usize
+pub fn play<P: PageStore>(
+    store: &mut P,
+    accesses: &[Access],
+    replies: &mut [Result<Reply, Outside>],
+) -> usize
     ensures number { result ≡ min (length accesses.now) (length replies.old) }
     ensures answers { replies.new ≡ replies_of (P.words store.old) (take result accesses.now) ++ drop result replies.old }
     ensures after { P.words store.new ≡ list_after_all (P.words store.old) (take result accesses.now) }
@@ -43,7 +45,7 @@ pub fn play<P: PageStore>(store: &mut P, accesses: &[Access], replies: &mut [Rep
 pub fn play_and_drain<P: PageStore>(
     bank: &mut Bank<P>,
     accesses: &[Access],
-    replies: &mut [Reply],
+    replies: &mut [Result<Reply, Outside>],
 ) -> usize
     ensures number { result ≡ min (length accesses.now) (length replies.old) }
     ensures answers { replies.new ≡ replies_of (laid bank.old.slots (P.words bank.old.below)) (take result accesses.now) ++ drop result replies.old }

@@ -1,14 +1,11 @@
 //! The sizes of byte stores, groups with unlawful marks, two words of one slot, and a list played through two banks.
 use crate::examples::{put_in_bytes, through_to_bytes};
-use page::{Access, Bank, Bytes, Outside, PageStore, Reply, Table, play_and_drain, word_of};
+use page::{Access, Bank, Bytes, Outside, PageStore, Reply, Table, play_and_drain};
 use word::{Mark, Word};
 
 // A word of a value and a mark's number, blank for a number that no mark has.
 fn word(value: u32, number: u32) -> Word {
-    let mark = match Mark::from_number(number) {
-        Some(mark) => mark,
-        None => Mark::blank(),
-    };
+    let mark = Mark::try_from(number).unwrap_or(Mark::blank());
     Word { value, mark }
 }
 
@@ -32,9 +29,9 @@ fn a_size_counts_whole_groups_up_to_4096(rt: HostRuntime) {
 #[test]
 fn an_unlawful_mark_reads_as_blank(rt: HostRuntime) {
     let blank = word(9, 0);
-    assert_eq!(rt; word_of([0, 0, 0, 9, 0, 16, 0, 0]), blank);
-    assert_eq!(rt; word_of([0, 0, 0, 9, 0, 127, 66, 65]), blank);
-    assert_eq!(rt; word_of([0, 0, 0, 9, 0, 127, 66, 64]), word(9, 8_340_032));
+    assert_eq!(rt; Word::from([0, 0, 0, 9, 0, 16, 0, 0]), blank);
+    assert_eq!(rt; Word::from([0, 0, 0, 9, 0, 127, 66, 65]), blank);
+    assert_eq!(rt; Word::from([0, 0, 0, 9, 0, 127, 66, 64]), word(9, 8_340_032));
 }
 
 #[test]
@@ -78,17 +75,17 @@ fn a_list_is_played_on_a_bank_over_a_bank(rt: HostRuntime) {
         Access::Read(5),
         Access::Write(4096, sent),
     ];
-    let mut replies = [Reply::Outside; 5];
+    let mut replies = [Err(Outside); 5];
     let mut bank = Bank::new(Bank::new(Table::new()));
     assert_eq!(rt; play_and_drain(&mut bank, &accesses, &mut replies), 4);
     assert_eq!(rt;
         replies,
         [
-            Reply::Gave(word(0, 0)),
-            Reply::Written,
-            Reply::Gave(sent),
-            Reply::Outside,
-            Reply::Outside,
+            Ok(Reply::Gave(word(0, 0))),
+            Ok(Reply::Written),
+            Ok(Reply::Gave(sent)),
+            Err(Outside),
+            Err(Outside),
         ]
     );
     let table = bank.into_below().into_below();

@@ -1,2 +1,3 @@
--- Lemmas on marks.
+-- Lemmas on marks, and on the groups that spell words.
 pub mod Marks
+pub mod Groups

@@ -2,3 +2,4 @@
 pub mod Lawful
 pub mod Marks
 pub mod Words
+pub mod Groups

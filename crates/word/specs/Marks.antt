@@ -1,7 +1,8 @@
 -- What a mark tells: its number, its core and its count. Assumes nothing.
-use Rattle.std.specs.Prelude.{◌≡◌, ℕ, ◌/◌, ◌%◌, Bool, true, false, cond, Some, None, Option, ◌==◌, refl}
+use Rattle.std.specs.Prelude.{◌≡◌, ℕ, ◌/◌, ◌%◌, Bool, true, false, cond, Some, None, Option, Ok, Err, Result, ◌==◌, refl}
 use Rattle.word.specs.Lawful.{lawful}
 use Rattle.word.specs.declared.mark.Mark.{Mark}
+use Rattle.word.specs.declared.mark.NoMark.{NoMark}
 
 -- the number of a mark
 abbrev pub number : Mark → ℕ
@@ -22,3 +23,7 @@ mark_by n false law = record { number = 0; law = refl }
 
 abbrev pub mark_at : ℕ → Mark
 mark_at n = mark_by n (lawful n) refl
+
+-- what a number reads as: its mark, or that it is none
+abbrev pub mark_read : ℕ → Result Mark NoMark
+mark_read n = cond (lawful n) (Ok (mark_at n)) (Err (record { number = n }))

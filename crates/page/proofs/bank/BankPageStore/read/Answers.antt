@@ -1,11 +1,11 @@
-use Rattle.std.proofs.Common.{refl, ◌∙◌, arith}
+use Rattle.std.proofs.Common.{refl, ap, ◌∙◌, arith}
 use Rattle.page.specs.Pages.{read_answer}
 use Rattle.page.specs.Slots.{laid}
-use Rattle.page.proofs.BankCalls.{read_outside, read_held, read_through, laid_same}
-use Rattle.page.proofs.bank.store.BankPageStore.read.Goals as goal
+use Rattle.page.proofs.BankCalls.{read_outside, read_held, read_through}
+use Rattle.page.proofs.bank.BankPageStore.read.Goals as goal
 
-pub returns-then-place-size_below : goal.returns-then-place-size_below
-returns-then-place-size_below g c =
+pub returns-then-place-size : goal.returns-then-place-size
+returns-then-place-size g c =
     let slots = c.args.self.now.slots in
     let below = g.P.PageStore.words c.args.self.now.below in
     record {
@@ -32,9 +32,9 @@ returns-in-None g c =
     let below = g.P.PageStore.words c.args.self.now.below in
     record {
       answer =
-          ◌∙◌ {b = read_answer below c.args.place} c.read_below.ensures.answer
+          ◌∙◌ {b = read_answer below c.args.place} c.read.ensures.answer
           (read_through slots below c.args.place (omega arith) c.in-None.ensures);
-      same = laid_same slots below c.read_below.new.self.slots _ c.read_below.ensures.slots c.read_below.ensures.below;
-      slots = c.read_below.ensures.slots;
-      below = c.read_below.ensures.below;
+      same = ap (laid slots) c.read.ensures.same;
+      slots = refl {a = slots};
+      below = c.read.ensures.same;
     }

@@ -1,28 +1,32 @@
 //! The group of 8 bytes that spells a word: the value, then the mark's number, 4 bytes each, the highest byte first.
-//! It stands apart from the byte store, since every layout of words in bytes is made of such groups.
+//! It stands apart from the word, since a word needs no bytes.
 ghost use Rattle.std.specs.Prelude.{◌≡◌, ◌++◌};
-ghost use Rattle.page.specs.Groups.{four_bytes, four_number, group_bytes, group_word};
+ghost use Rattle.word.specs.Groups.{four_bytes, four_number, group_bytes, group_word};
 
-use word::{Mark, Word};
+use crate::mark::Mark;
+use crate::word::Word;
 
 /// The word that a group spells. An unlawful mark reads as the blank one, with the group's value.
-pub fn word_of(group: [u8; 8]) -> Word
-    ensures { result ≡ group_word group }
-{
-    let (value, number) = halves_of(group);
-    let mark = match Mark::from_number(number) {
-        Some(mark) => mark,
-        None => Mark::blank(),
-    };
-    Word { value, mark }
+impl From<[u8; 8]> for Word {
+    ghost from_gives = { λ group word. word ≡ group_word group };
+
+    fn from(group: [u8; 8]) -> Word {
+        let (value, number) = halves_of(group);
+        let mark = Mark::try_from(number).unwrap_or(Mark::blank());
+        Word { value, mark }
+    }
 }
 
 /// The group that spells a word.
-pub fn bytes_of(word: Word) -> [u8; 8]
-    ensures value { result ≡ group_bytes word }
-    ensures back { group_word result ≡ word }
-{
-    spelled(word.value, word.mark.number())
+impl From<Word> for [u8; 8] {
+    ghost from_gives = { λ word group. group ≡ group_bytes word };
+
+    fn from(word: Word) -> [u8; 8]
+        ensures value { result ≡ group_bytes word }
+        ensures back { group_word result ≡ word }
+    {
+        spelled(word.value, word.mark.number())
+    }
 }
 
 // The two numbers that a group spells.

@@ -1,9 +1,9 @@
 use Rattle.std.proofs.Common.{arith}
 use Rattle.page.proofs.BankCalls.{write_inside, write_outside, laid_inside, laid_outside, slots_inside, slots_outside, below_inside, below_outside}
-use Rattle.page.proofs.bank.store.BankPageStore.write.Goals as goal
+use Rattle.page.proofs.bank.BankPageStore.write.Goals as goal
 
-pub returns-then-place-size_below : goal.returns-then-place-size_below
-returns-then-place-size_below g c =
+pub returns-then-place-size : goal.returns-then-place-size
+returns-then-place-size g c =
     let slots = c.args.self.now.slots in
     let below = g.P.PageStore.words c.args.self.now.below in
     record {

@@ -6,8 +6,8 @@ use Rattle.word.proofs.Marks.{lawful_tells}
 use Rattle.word.specs.Marks.{number, mark_at}
 use Rattle.word.specs.declared.mark.Mark.{Mark}
 use Rattle.word.specs.declared.word.Word.{Word}
-use Rattle.page.specs.Groups.{four_bytes, four_number, group_bytes, group_word}
-use Rattle.page.proofs.Marks.{mark_read_number}
+use Rattle.word.specs.Groups.{four_bytes, four_number, group_bytes, group_word}
+use Rattle.word.proofs.Marks.{mark_read_number}
 
 -- four bytes make up the number below 2 ^ 32 that they were taken from
 pub four_back : (n : ℕ) → n < 2 ^ 32 → four_number (four_bytes n) 0 ≡ n
