@@ -6,7 +6,9 @@ use denote.Struct.Props.{props}
 use Rattle.std.proofs.lemmas.Bool.{eqb-true, ltb-true, leb-true, and_parts, or_cases, or_right, and_from, lt-ltb, le-leb, both_ways}
 use Rattle.word.specs.Lawful.{lawful, Lawful, Stores, mark_of}
 use Rattle.word.specs.Marks.{number, mark_by, mark_at}
+use Rattle.word.specs.Words.{blank_mark, blank_word}
 use Rattle.word.specs.declared.mark.Mark.{Mark}
+use Rattle.word.specs.declared.word.Word.{Word}
 
 -- a number that passes the test is blank or the mark of some core's store
 pub lawful_tells : (n : ℕ) → lawful n ≡ true → Lawful n
@@ -49,3 +51,7 @@ marks_apart c k d l s t e =
     let a = s.2 in
     let b = t.2 in
     (omega arith, omega arith)
+
+-- a word of value 0 whose mark's number is 0 is the blank word
+pub blank_from_zero : (x : Word) → x.value ≡ 0 → number x.mark ≡ 0 → x ≡ blank_word
+blank_from_zero x value mark = λ i. record { value = value i; mark = same_mark x.mark blank_mark mark i }
