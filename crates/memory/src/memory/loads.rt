@@ -12,27 +12,14 @@ use super::Memory;
 use crate::bounds::{Core, Place};
 use crate::entry::{Entry, State};
 use page::PageStore;
-use word::{Mark, Word};
-
-// The word with value 0 and a blank mark.
-pub(super) fn blank_word() -> Word
-    ensures { result ≡ blank_word }
-{
-    Word {
-        value: 0,
-        mark: Mark::blank(),
-    }
-}
+use word::Word;
 
 // The page's word at a place; past the page's end it reads as a blank word.
 pub(super) fn page_word<P: PageStore>(page: &mut P, word: u16) -> Word
     ensures answer { result ≡ slice_index_or (P.words page.old) word blank_word }
     ensures same { P.words page.new ≡ P.words page.old }
 {
-    match page.read(word) {
-        Ok(x) => x,
-        Err(_) => blank_word(),
-    }
+    page.read(word).unwrap_or(Word::blank())
 }
 
 impl<P: PageStore> Memory<P> {
