@@ -82,7 +82,10 @@ impl Entry {
     {
         match (self.state, event) {
             (State::Invalid, _) | (State::Valid, Event::Settle) => Done::Kept,
-            (State::Valid, Event::Evict | Event::Taken | Event::Fade) => self.leave(State::Invalid, Done::Dropped),
+            (State::Valid, Event::Evict | Event::Taken | Event::Fade) => self.leave(
+                State::Invalid,
+                Done::Dropped,
+            ),
             (State::Registered, Event::Settle) => self.leave(State::Valid, Done::Written),
             (State::Registered, Event::Evict) => self.leave(State::Invalid, Done::Written),
             (State::Registered, Event::Taken) => self.leave(State::Invalid, Done::Taken),
