@@ -9,7 +9,7 @@ use Rattle.rules.specs.Effects.{Place, places, tally, dropped, faded}
 use Rattle.rules.specs.State.{invalid, valid, registered}
 use Rattle.memory.specs.Entries.{copy_in, copy_by, empty, turned, state_after, done_by, is_dropped}
 use Rattle.memory.specs.Modes.{goes, left_by, drops}
-use Rattle.memory.specs.Owners.{seat, is_registered, counts_for}
+use Rattle.memory.specs.Owners.{Core, seat, is_registered, counts_for}
 use Rattle.memory.specs.Views.{copies_of, memory_of}
 use Rattle.memory.specs.Walks.{place_at, within, walked}
 use Rattle.memory.specs.declared.entry.Entry.{Entry}
@@ -97,7 +97,7 @@ module _ (f : Five) (plan : ℕ) where
   at_left (e ∷ es) (suc k) = at_left es k
 
   -- every owner still holds its word
-  pub faded_sound : (es es' : List Entry) (os : List (Option ℕ)) → es' ≡ map (left_by f plan) es → Sound f es os → Sound f es' os
+  pub faded_sound : (es es' : List Entry) (os : List (Option Core)) → es' ≡ map (left_by f plan) es → Sound f es os → Sound f es' os
   faded_sound es es' os e s = rw e after
     where
       after : Sound f (map (left_by f plan) es) os
@@ -121,7 +121,7 @@ module _ (f : Five) (plan : ℕ) where
       go false = refl
 
   -- the memory after the end of a phase
-  pub faded_memory : (ps : List Word) (es es' : List Entry) (os : List (Option ℕ)) → es' ≡ map (left_by f plan) es → memory_of ps es' os ≡ (effect.fade f plan (memory_of ps es os)).memory
+  pub faded_memory : (ps : List Word) (es es' : List Entry) (os : List (Option Core)) → es' ≡ map (left_by f plan) es → memory_of ps es' os ≡ (effect.fade f plan (memory_of ps es os)).memory
   faded_memory ps es es' os e =
       same_memory _ _ _ _ _ _ refl (ap copies_of e ∙ (λ t c i. faded_at es c i t)) refl
 

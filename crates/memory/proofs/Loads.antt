@@ -1,6 +1,6 @@
 -- A load on the lists is the rules' load: after the write back the word comes from its owner's registered entry, or from the
 -- page, and fills the slot. Assumes nothing.
-use Rattle.std.proofs.Common.{◌≡◌, ℕ, ◌<◌, true, false, eqb, ltb, List, length, get_or, set, Some, None, Option, sym, refl, ap, ◌∙◌, arith}
+use Rattle.std.proofs.Common.{◌≡◌, ℕ, ◌<◌, true, false, eqb, List, length, get_or, set, Some, None, Option, sym, refl, ap, ◌∙◌, arith}
 use Rattle.std.proofs.lemmas.List.{get_or-set_same}
 use Rattle.std.proofs.lemmas.Bool.{and_parts, eqb-true, eq-eqb, cond-true}
 use Rattle.word.specs.declared.word.Word.{Word}
@@ -8,14 +8,15 @@ use Rattle.call.specs.Figures.{Five, slot_of}
 use Rattle.rules.specs.Effects.{Got, write_back, fetch, fetch_by, fetch_into, filled, word_in, with_copy}
 use Rattle.rules.specs.State.{Copy, invalid, valid, registered, Memory, of_word, copy_of, page_word}
 use Rattle.memory.specs.Entries.{copy_in, copy_by, empty, turned, state_after}
-use Rattle.memory.specs.Owners.{seat, is_registered, counts_for, holds}
-use Rattle.memory.specs.Views.{copies_of, owners_of, memory_of, word_by, source_by}
+use Rattle.memory.specs.Owners.{Core, seat, index_of, is_registered, counts_for, holds}
+use Rattle.memory.specs.Views.{copies_of, owner_number, owners_of, memory_of, word_by, source_by}
+use Rattle.memory.specs.declared.bounds.Seat.{Seat}
 use Rattle.memory.specs.declared.entry.Entry.{Entry}
 use Rattle.memory.specs.declared.entry.Event.TheVariants.{Settle}
 use Rattle.memory.specs.declared.entry.State.{State}
 use Rattle.memory.specs.declared.entry.State.TheVariants.{Invalid, Valid, Registered}
 use Rattle.memory.proofs.Owned.{Owned}
-use Rattle.memory.proofs.Views.{copies_at, copies_set, same_memory}
+use Rattle.memory.proofs.Views.{copies_at, copies_set, same_memory, seated, limited}
 
 -- no registered copy is left where one was settled
 pub settled_idle : (es es' : List Entry) (at : ℕ) → at < length es → es' ≡ set es at (turned (get_or es at empty) Settle) → is_registered (get_or es' at empty).state ≡ false
@@ -43,18 +44,17 @@ counted_copy w e h = go e.state (and_parts (is_registered e.state) (eqb e.place 
         ∙ ap (λ (n : ℕ). registered n e.word) own
 
 -- an owner has the word, registered
-pub owner_copy : (f : Five) (ps : List Word) (es : List Entry) (os : List (Option ℕ)) (w c : ℕ) → slot_of f w < 64 → holds f es w (Some c) ≡ true → copy_of f (memory_of ps es os) c w ≡ registered w (get_or es (seat c (slot_of f w)) empty).word
+pub owner_copy : (f : Five) (ps : List Word) (es : List Entry) (os : List (Option Core)) (w : ℕ) (c : Core) → slot_of f w < 64 → holds f es w (Some c) ≡ true → copy_of f (memory_of ps es os) c.number w ≡ registered w (get_or es (seat c.number (slot_of f w)) empty).word
 owner_copy f ps es os w c few h =
-    ap (of_word w) (copies_at es c (slot_of f w) few)
-    ∙ counted_copy w (get_or es (seat c (slot_of f w)) empty) (and_parts (ltb c 8) (counts_for w (get_or es (seat c (slot_of f w)) empty)) h).1
+    ap (of_word w) (copies_at es c.number (slot_of f w) few) ∙ counted_copy w (get_or es (seat c.number (slot_of f w)) empty) h
 
-module _ (f : Five) (ps : List Word) (es : List Entry) (os : List (Option ℕ)) (c w : ℕ) (few : slot_of f w < 64) (inside : seat c (slot_of f w) < length es) (owned : Owned f es os) where
+module _ (f : Five) (ps : List Word) (es : List Entry) (os : List (Option Core)) (c w : ℕ) (few : slot_of f w < 64) (inside : seat c (slot_of f w) < length es) (owned : Owned f es os) where
   -- what the rules fetch is the word as it is now, and fills the slot
   pub fetched : fetch_into f (memory_of ps es os) c w ≡ filled f (memory_of ps es os) c w (word_by (get_or os w None) f ps es w) (source_by (get_or os w None))
   unfolding owners_of
   fetched = go (get_or os w None) (owned w)
     where
-      go : (o : Option ℕ) → holds f es w o ≡ true → fetch_by o f (memory_of ps es os) c w ≡ filled f (memory_of ps es os) c w (word_by o f ps es w) (source_by o)
+      go : (o : Option Core) → holds f es w o ≡ true → fetch_by (owner_number o) f (memory_of ps es os) c w ≡ filled f (memory_of ps es os) c w (word_by o f ps es w) (source_by o)
       go None h = refl
       go (Some d) h = ap (λ (k : Copy). filled f (memory_of ps es os) c w (word_in k (page_word (memory_of ps es os) w)) 2) (owner_copy f ps es os w d few h)
 
@@ -62,16 +62,17 @@ module _ (f : Five) (ps : List Word) (es : List Entry) (os : List (Option ℕ)) 
   filled_slot x =
       same_memory _ _ _ _ _ _ refl (copies_set es c (slot_of f w) (record { state = Valid; place = w; word = x }) inside few) refl
 
--- the three steps of a fetch, by what each leaves: figures f as it began, g after the write back, h after the look-up
-pub fetch_steps : (f g h : Five) (m : Memory) (ps ps' : List Word) (es eb es' : List Entry) (os os' : List (Option ℕ)) (c w slot source : ℕ) (x : Word) → g ≡ f → h ≡ g → slot ≡ slot_of f w → slot < 64 → seat c slot < length es → Owned g es os → memory_of ps es os ≡ write_back m c slot → x ≡ word_by (get_or os w None) g ps es w → source ≡ source_by (get_or os w None) → ps' ≡ ps → eb ≡ es → es' ≡ set eb (seat c (slot_of h w)) (record { state = Valid; place = w; word = x }) → os' ≡ os → record { word : x ≡ (fetch f m c w).word; source : source ≡ (fetch f m c w).source; after : memory_of ps' es' os' ≡ (fetch f m c w).memory }
-fetch_steps f g h m ps ps' es eb es' os os' c w slot source x gf hg sf few inside owned made xe se pe be ee oe =
-    let fw : slot_of f w < 64 = rw (sym sf) few in
-    let in_f : seat c (slot_of f w) < length es = rw (sym sf) inside in
+-- the three steps of a fetch, by what each leaves: figures f as it began, g after the write back
+pub fetch_steps : (f g : Five) (m : Memory) (ps ps' : List Word) (es eb es' : List Entry) (os os' : List (Option Core)) (at : Seat) (c w source : ℕ) (x : Word) → g ≡ f → at.core.number ≡ c → at.slot.number ≡ slot_of f w → index_of at < length es → Owned g es os → memory_of ps es os ≡ write_back m at.core.number at.slot.number → x ≡ word_by (get_or os w None) g ps es w → source ≡ source_by (get_or os w None) → ps' ≡ ps → eb ≡ es → es' ≡ set eb (index_of at) (record { state = Valid; place = w; word = x }) → os' ≡ os → record { word : x ≡ (fetch f m c w).word; source : source ≡ (fetch f m c w).source; after : memory_of ps' es' os' ≡ (fetch f m c w).memory }
+fetch_steps f g m ps ps' es eb es' os os' at c w source x gf cf sf inside owned made xe se pe be ee oe =
+    let here : index_of at ≡ seat c (slot_of f w) = seated at c (slot_of f w) cf sf in
+    let fw : slot_of f w < 64 = rw (sym sf) (limited at.slot) in
+    let in_f : seat c (slot_of f w) < length es = rw (sym here) inside in
     let owned_f : Owned f es os = rw (sym gf) owned in
-    let base : memory_of ps es os ≡ write_back m c (slot_of f w) = made ∙ ap (write_back m c) sf in
+    let base : memory_of ps es os ≡ write_back m c (slot_of f w) = made ∙ (ap (λ (k : ℕ). write_back m k at.slot.number) cf ∙ ap (write_back m c) sf) in
     let got : fetch f m c w ≡ filled f (memory_of ps es os) c w (word_by (get_or os w None) f ps es w) (source_by (get_or os w None)) = ap (λ (n : Memory). fetch_into f n c w) (sym base) ∙ fetched f ps es os c w fw in_f owned_f in
     let x_f : x ≡ word_by (get_or os w None) f ps es w = xe ∙ ap (λ (k : Five). word_by (get_or os w None) k ps es w) gf in
-    let es_f : es' ≡ set es (seat c (slot_of f w)) (record { state = Valid; place = w; word = x }) = ee ∙ ap (λ (l : List Entry). set l (seat c (slot_of h w)) (record { state = Valid; place = w; word = x })) be ∙ ap (λ (k : Five). set es (seat c (slot_of k w)) (record { state = Valid; place = w; word = x })) (hg ∙ gf) in
+    let es_f : es' ≡ set es (seat c (slot_of f w)) (record { state = Valid; place = w; word = x }) = ee ∙ ap (λ (l : List Entry). set l (index_of at) (record { state = Valid; place = w; word = x })) be ∙ ap (λ (k : ℕ). set es k (record { state = Valid; place = w; word = x })) here in
     record {
       word = x_f ∙ sym (ap (λ (k : Got). k.word) got);
       source = se ∙ sym (ap (λ (k : Got). k.source) got);

@@ -1,15 +1,18 @@
 -- Tables that are just made hold nothing, and the count of owned words goes word by word. Assumes nothing.
-use Rattle.std.proofs.Common.{◌≡◌, ℕ, zero, suc, ◌+◌, ◌≤◌, Bool, true, false, cond, ltb, List, [], ◌∷◌, ◌++◌, length, get_or, replicate, is_some, None, Option, sym, refl, ap, ◌∙◌, add-one, arith}
+use Rattle.std.proofs.Common.{◌≡◌, ℕ, zero, suc, ◌+◌, ◌≤◌, Bool, true, false, cond, ltb, List, [], ◌∷◌, ◌++◌, length, get_or, replicate, is_some, Some, None, Option, sym, refl, ap, ◌∙◌, add-one, arith}
 use lib.ListN.{length-replicate}
 use Rattle.std.proofs.lemmas.List.{get_or_past}
+use Rattle.std.proofs.lemmas.Bool.{ltb-false}
+use Rattle.std.specs.Option.{option_map}
 use Rattle.word.specs.declared.word.Word.{Word}
 use Rattle.call.specs.Figures.{Five}
 use Rattle.rules.specs.Questions.{owned_among}
 use Rattle.rules.specs.State.{invalid, Memory, empty_caches}
 use Rattle.rules.specs.Tables.{below}
 use Rattle.memory.specs.Entries.{copy_in, empty}
-use Rattle.memory.specs.Owners.{seat, holds}
-use Rattle.memory.specs.Views.{copies_of, owners_of, memory_of}
+use Rattle.memory.specs.Owners.{Core, seat, holds}
+use Rattle.memory.specs.Views.{copies_of, owner_number, owners_of, memory_of}
+use Rattle.memory.specs.declared.bounds.Below.{Below}
 use Rattle.memory.specs.declared.entry.Entry.{Entry}
 use Rattle.memory.proofs.Owned.{Sound}
 use Rattle.memory.proofs.Views.{same_memory}
@@ -20,13 +23,13 @@ filled zero x k = refl
 filled (suc n) x zero = refl
 filled (suc n) x (suc k) = filled n x k
 
-pub open_sound : (f : Five) (n k : ℕ) (es : List Entry) (os : List (Option ℕ)) → n ≡ 512 → k ≡ 4096 → es ≡ replicate n empty → os ≡ replicate k None → Sound f es os
+pub open_sound : (f : Five) (n k : ℕ) (es : List Entry) (os : List (Option Core)) → n ≡ 512 → k ≡ 4096 → es ≡ replicate n empty → os ≡ replicate k None → Sound f es os
 open_sound f n k es os ne ke ee oe =
     record {
       caches = ap length ee ∙ (length-replicate n empty ∙ ne);
       words = ap length oe ∙ (length-replicate k None ∙ ke);
       placed = λ at. ap (λ (l : List Entry). ltb (get_or l at empty).place 4096) ee ∙ ap (λ (e : Entry). ltb e.place 4096) (filled n empty at);
-      owned = λ w. ap (λ (l : List (Option ℕ)). holds f es w (get_or l w None)) oe ∙ ap (holds f es w) (filled k None w);
+      owned = λ w. ap (λ (l : List (Option Core)). holds f es w (get_or l w None)) oe ∙ ap (holds f es w) (filled k None w);
     }
 
 no_copy : (n c i : ℕ) → copies_of (replicate n empty) c i ≡ invalid
@@ -39,21 +42,39 @@ no_copy n c i = go (ltb i 64)
 
 no_owner : (k w : ℕ) → owners_of (replicate k None) w ≡ None
 unfolding owners_of
-no_owner k w = filled k None w
+no_owner k w = ap owner_number (filled k None w)
 
 -- a memory just opened
-pub opened_view : (n k : ℕ) (page ps : List Word) (es : List Entry) (os : List (Option ℕ)) → ps ≡ page → es ≡ replicate n empty → os ≡ replicate k None → memory_of ps es os ≡ empty_caches page
+pub opened_view : (n k : ℕ) (page ps : List Word) (es : List Entry) (os : List (Option Core)) → ps ≡ page → es ≡ replicate n empty → os ≡ replicate k None → memory_of ps es os ≡ empty_caches page
 opened_view n k page ps es os pe ee oe =
     same_memory _ _ _ _ _ _ pe (ap copies_of ee ∙ (λ t c i. no_copy n c i t)) (ap owners_of oe ∙ (λ t w. no_owner k w t))
 
 -- a word past the table has no owner
-pub owner_past : (os : List (Option ℕ)) (w : ℕ) → length os ≤ w → None ≡ owners_of os w
+pub owner_past : (os : List (Option Core)) (w : ℕ) → length os ≤ w → None ≡ owners_of os w
 unfolding owners_of
-owner_past os w h = sym (get_or_past os w None h)
+owner_past os w h = sym (ap owner_number (get_or_past os w None h))
 
-pub owner_there : (os : List (Option ℕ)) (w : ℕ) → get_or os w None ≡ owners_of os w
+-- a number that has no place is past the table
+pub no_place : (p : Option (Below 4096)) (w : ℕ) → option_map (λ n. n.number) p ≡ cond (ltb w 4096) (Some w) None → p ≡ None → 4096 ≤ w
+no_place p w told none = go (ltb w 4096) refl (sym (ap (option_map (λ n. n.number)) none) ∙ told)
+  where
+    go : (b : Bool) → ltb w 4096 ≡ b → ◌≡◌ {A = Option ℕ} None (cond b (Some w) None) → 4096 ≤ w
+    go true h t = let z : ◌≡◌ {A = ℕ} 0 1 = cc in let no_way : ⊥ = omega arith in absurd no_way
+    go false h t = ltb-false w 4096 h
+
+-- the place of a number is that number
+pub same_place : (p : Option (Below 4096)) (w : ℕ) (place : Below 4096) → option_map (λ n. n.number) p ≡ cond (ltb w 4096) (Some w) None → p ≡ Some place → place.number ≡ w
+same_place p w place told some = go (ltb w 4096) (sym (ap (option_map (λ n. n.number)) some) ∙ told)
+  where
+    go : (b : Bool) → Some place.number ≡ cond b (Some w) None → place.number ≡ w
+    go true t = cc
+    go false t = let z : ◌≡◌ {A = ℕ} 0 1 = cc in let no_way : ⊥ = omega arith in absurd no_way
+
+-- the owner of a word, by the place of its number
+pub owner_there : (os : List (Option Core)) (p : Option (Below 4096)) (w : ℕ) (place : Below 4096) (r o : Option Core) → option_map (λ n. n.number) p ≡ cond (ltb w 4096) (Some w) None → p ≡ Some place → r ≡ get_or os place.number None → r ≡ o → owner_number o ≡ owners_of os w
 unfolding owners_of
-owner_there os w = refl
+owner_there os p w place r o told some read is =
+    ap owner_number (sym is ∙ (read ∙ ap (λ (k : ℕ). get_or os k None) (same_place p w place told some)))
 
 -- one more word
 pub owned_more : (m : Memory) (ws : List ℕ) (w : ℕ) → owned_among m (ws ++ (w ∷ [])) ≡ owned_among m ws + cond {A = ℕ} (is_some (m.owners w)) 1 0

@@ -2,11 +2,11 @@
 -- for the one word whose owner is set anew; a turn of the table by which an entry counts no more takes the owner from the word.
 -- Assumes nothing.
 use Rattle.std.proofs.Common.{◌≡◌, ℕ, ◌<◌, true, false, ◌&&◌, eqb, ltb, ◌≢◌, List, length, get_or, set, Some, None, Option, sym, refl, ap, ◌∙◌, ⊎_elim, arith}
-use Rattle.std.proofs.lemmas.List.{get_or-set_same, get_or-set_other, length-set}
-use Rattle.std.proofs.lemmas.Bool.{and_parts, and_from, cases_eq, eqb-true, both_ways, ltb-true}
-use Rattle.call.specs.Figures.{Five, slot_of}
+use Rattle.std.proofs.lemmas.List.{get_or-set_same, get_or-set_other, get_or_default, length-set}
+use Rattle.std.proofs.lemmas.Bool.{and_parts, cases_eq, eqb-true, both_ways, ltb-true}
+use Rattle.call.specs.Figures.{Five, figures, slot_of}
 use Rattle.memory.specs.Entries.{empty, turned, state_after, done_by}
-use Rattle.memory.specs.Owners.{seat, is_registered, counts_for, holds}
+use Rattle.memory.specs.Owners.{Core, seat, is_registered, counts_for, holds}
 use Rattle.memory.specs.Views.{owners_after}
 use Rattle.memory.specs.declared.entry.Done.{Done}
 use Rattle.memory.specs.declared.entry.Done.TheVariants.{Kept as Idle, Dropped, Written, Taken as Lost}
@@ -15,8 +15,9 @@ use Rattle.memory.specs.declared.entry.State.{State}
 use Rattle.memory.specs.declared.entry.State.TheVariants.{Invalid, Valid, Registered}
 use Rattle.memory.specs.declared.entry.Event.{Event}
 use Rattle.memory.specs.declared.entry.Event.TheVariants.{Settle, Evict, Taken, Fade}
+use Rattle.memory.specs.declared.memory.Memory.{Memory as Tables}
 
-abbrev pub Owned : Five → List Entry → List (Option ℕ) → Type 0
+abbrev pub Owned : Five → List Entry → List (Option Core) → Type 0
 Owned f es os = (word : ℕ) → holds f es word (get_or os word None) ≡ true
 
 abbrev pub Placed : List Entry → Type 0
@@ -26,28 +27,24 @@ Placed es = (at : ℕ) → ltb (get_or es at empty).place 4096 ≡ true
 abbrev pub Kept : ℕ → List Entry → List Entry → Type 0
 Kept w es es' = (k : ℕ) → counts_for w (get_or es k empty) ≡ true → counts_for w (get_or es' k empty) ≡ true
 
-pub owned_kept : (f : Five) (es es' : List Entry) (os : List (Option ℕ)) → ((w : ℕ) → Kept w es es') → Owned f es os → Owned f es' os
+pub owned_kept : (f : Five) (es es' : List Entry) (os : List (Option Core)) → ((w : ℕ) → Kept w es es') → Owned f es os → Owned f es' os
 owned_kept f es es' os keep owned w = go (get_or os w None) (owned w)
   where
-    go : (o : Option ℕ) → holds f es w o ≡ true → holds f es' w o ≡ true
+    go : (o : Option Core) → holds f es w o ≡ true → holds f es' w o ≡ true
     go None h = refl
-    go (Some c) h =
-        let parts = and_parts (ltb c 8) (counts_for w (get_or es (seat c (slot_of f w)) empty)) h in
-        and_from (ltb c 8) (counts_for w (get_or es' (seat c (slot_of f w)) empty)) parts.0 (keep w (seat c (slot_of f w)) parts.1)
+    go (Some c) h = keep w (seat c.number (slot_of f w)) h
 
 -- the owner of one word set anew
-pub owned_set : (f : Five) (es es' : List Entry) (os : List (Option ℕ)) (v : ℕ) (o : Option ℕ) → v < length os → ((w : ℕ) → w ≢ v → Kept w es es') → holds f es' v o ≡ true → Owned f es os → Owned f es' (set os v o)
+pub owned_set : (f : Five) (es es' : List Entry) (os : List (Option Core)) (v : ℕ) (o : Option Core) → v < length os → ((w : ℕ) → w ≢ v → Kept w es es') → holds f es' v o ≡ true → Owned f es os → Owned f es' (set os v o)
 owned_set f es es' os v o inside keep here owned w =
     ⊎_elim
     (λ e. ap (λ (u : ℕ). holds f es' u (get_or (set os v o) u None)) e ∙ (ap (holds f es' v) (get_or-set_same os v o None inside) ∙ here))
     (λ ne. ap (holds f es' w) (get_or-set_other os v w o None ne) ∙ go ne (get_or os w None) (owned w))
     (cases_eq w v)
   where
-    go : w ≢ v → (p : Option ℕ) → holds f es w p ≡ true → holds f es' w p ≡ true
+    go : w ≢ v → (p : Option Core) → holds f es w p ≡ true → holds f es' w p ≡ true
     go ne None h = refl
-    go ne (Some c) h =
-        let parts = and_parts (ltb c 8) (counts_for w (get_or es (seat c (slot_of f w)) empty)) h in
-        and_from (ltb c 8) (counts_for w (get_or es' (seat c (slot_of f w)) empty)) parts.0 (keep w ne (seat c (slot_of f w)) parts.1)
+    go ne (Some c) h = keep w ne (seat c.number (slot_of f w)) h
 
 -- one entry set anew
 pub kept_set : (es : List Entry) (at : ℕ) (e : Entry) (w : ℕ) → at < length es → (counts_for w (get_or es at empty) ≡ true → counts_for w e ≡ true) → Kept w es (set es at e)
@@ -75,7 +72,7 @@ pub counts_own : (w : ℕ) (e : Entry) → counts_for w e ≡ true → e.place �
 counts_own w e h = eqb-true e.place w (and_parts (is_registered e.state) (eqb e.place w) h).1
 
 -- a turn of the table keeps what an owner holds
-pub turn_owned : (f : Five) (es : List Entry) (os : List (Option ℕ)) (at : ℕ) (event : Event) → at < length es → length os ≡ 4096 → Placed es → Owned f es os → Owned f (set es at (turned (get_or es at empty) event)) (owners_after (done_by (get_or es at empty).state event) (get_or es at empty) os)
+pub turn_owned : (f : Five) (es : List Entry) (os : List (Option Core)) (at : ℕ) (event : Event) → at < length es → length os ≡ 4096 → Placed es → Owned f es os → Owned f (set es at (turned (get_or es at empty) event)) (owners_after (done_by (get_or es at empty).state event) (get_or es at empty) os)
 turn_owned f es os at event inside long placed owned = go (get_or es at empty).state refl event
   where
     was : Entry
@@ -110,23 +107,29 @@ turn_owned f es os at event inside long placed owned = go (get_or es at empty).s
         owned
 
 -- what the ghost fields of a memory say
-pub record Sound (f : Five) (es : List Entry) (os : List (Option ℕ)) : Type 0 where
+pub record Sound (f : Five) (es : List Entry) (os : List (Option Core)) : Type 0 where
   pub caches : length es ≡ 512
   pub words : length os ≡ 4096
   pub placed : Placed es
   pub owned : Owned f es os
 
-owners_long : (d : Done) (e : Entry) (os : List (Option ℕ)) → length (owners_after d e os) ≡ length os
+-- what those of this memory say
+pub sound_of : {P : Type 0} (m : Tables P) → Sound (figures m.figures) m.entries m.owners
+sound_of m = record { caches = m.caches; words = m.words; placed = m.placed; owned = m.owned }
+
+owners_long : (d : Done) (e : Entry) (os : List (Option Core)) → length (owners_after d e os) ≡ length os
 owners_long Idle e os = refl
 owners_long Dropped e os = refl
 owners_long Written e os = length-set os e.place None
 owners_long Lost e os = length-set os e.place None
 
--- a turn of the table keeps all of it
-pub turn_sound : (f : Five) (es es' : List Entry) (os os' : List (Option ℕ)) (at : ℕ) (event : Event) → Sound f es os → at < 512 → es' ≡ set es at (turned (get_or es at empty) event) → os' ≡ owners_after (done_by (get_or es at empty).state event) (get_or es at empty) os → Sound f es' os'
-turn_sound f es es' os os' at event s few a b =
+-- a turn of the table keeps all of it: what it did is d, which is e in the arm of the code that has come to its end
+pub turn_sound : (f : Five) (es es' : List Entry) (os os' : List (Option Core)) (at : ℕ) (x : Entry) (event : Event) (d e : Done) → Sound f es os → at < 512 → es' ≡ set es at (turned (get_or es at empty) event) → d ≡ done_by (get_or es at empty).state event → d ≡ e → os' ≡ owners_after e (get_or es at x) os → Sound f es' os'
+turn_sound f es es' os os' at x event d e s few a told is b =
     let inside : at < length es = omega (arith, s.caches) in
+    let here : get_or es at x ≡ get_or es at empty = get_or_default es at x empty inside in
     let es'' = set es at (turned (get_or es at empty) event) in
     let os'' = owners_after (done_by (get_or es at empty).state event) (get_or es at empty) os in
+    let left : os' ≡ os'' = b ∙ (ap (λ (k : Done). owners_after k (get_or es at x) os) (sym is ∙ told) ∙ ap (λ (k : Entry). owners_after (done_by (get_or es at empty).state event) k os) here) in
     let after : Sound f es'' os'' = record { caches = length-set es at (turned (get_or es at empty) event) ∙ s.caches; words = owners_long (done_by (get_or es at empty).state event) (get_or es at empty) os ∙ s.words; placed = placed_set es at (turned (get_or es at empty) event) inside (s.placed at) s.placed; owned = turn_owned f es os at event inside s.words s.placed s.owned } in
-    rw (a, b) after
+    rw (a, left) after

@@ -9,7 +9,7 @@ use Rattle.rules.specs.Effects as effect
 use Rattle.rules.specs.Effects.{Place, places, tally, write_back}
 use Rattle.rules.specs.State.{Memory}
 use Rattle.memory.specs.Entries.{copy_in, copy_by, empty}
-use Rattle.memory.specs.Owners.{is_registered}
+use Rattle.memory.specs.Owners.{Core, is_registered}
 use Rattle.memory.specs.Views.{copies_of, memory_of}
 use Rattle.memory.specs.Walks.{place_at, within, walked}
 use Rattle.memory.specs.declared.entry.Entry.{Entry}
@@ -46,7 +46,7 @@ copy_at es at =
     ∙ ap (λ (k : ℕ). copy_in (get_or es k empty)) (div-add-mod' at 64)
 
 -- one step
-pub settling_more : (f g : Five) (ps : List Word) (es fs hs : List Entry) (os : List (Option ℕ)) (n n' : Memory) (at count added : ℕ) → g ≡ f → Settling f (memory_of ps es os) n es fs at count → n' ≡ cond (within g at) (write_back n (at / 64) (at % 64)) n → added ≡ cond {A = ℕ} (within g at && is_registered (get_or fs at empty).state) 1 0 → ((k : ℕ) → at < k → get_or hs k empty ≡ get_or fs k empty) → Settling f (memory_of ps es os) n' es hs (at + 1) (count + added)
+pub settling_more : (f g : Five) (ps : List Word) (es fs hs : List Entry) (os : List (Option Core)) (n n' : Memory) (at count added : ℕ) → g ≡ f → Settling f (memory_of ps es os) n es fs at count → n' ≡ cond (within g at) (write_back n (at / 64) (at % 64)) n → added ≡ cond {A = ℕ} (within g at && is_registered (get_or fs at empty).state) 1 0 → ((k : ℕ) → at < k → get_or hs k empty ≡ get_or fs k empty) → Settling f (memory_of ps es os) n' es hs (at + 1) (count + added)
 settling_more f g ps es fs hs os n n' at count added gf s ne ae re =
     rw add-one (go (within f at) refl)
   where

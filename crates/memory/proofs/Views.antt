@@ -12,13 +12,15 @@ use Rattle.rules.specs.State.{Copy, invalid, valid, registered, Memory, of_word,
 use Rattle.rules.specs.Tables.{upd, upd2}
 use Rattle.rules.proofs.Tables.{upd_cases, upd2_cases}
 use Rattle.memory.specs.Entries.{copy_in, copy_by, empty, turned, state_after, done_by, is_written}
-use Rattle.memory.specs.Owners.{seat, is_registered}
-use Rattle.memory.specs.Views.{copies_of, owners_of, memory_of, page_after, owners_after, state_for}
+use Rattle.memory.specs.Owners.{Core, seat, index_of, is_registered}
+use Rattle.memory.specs.Views.{copies_of, owner_number, owners_of, memory_of, page_after, owners_after, state_for, view}
+use Rattle.memory.specs.declared.bounds.Below.{Below}
+use Rattle.memory.specs.declared.bounds.Seat.{Seat}
 use Rattle.memory.specs.declared.entry.Entry.{Entry}
 use Rattle.memory.specs.declared.entry.Event.TheVariants.{Settle}
 use Rattle.memory.specs.declared.entry.State.{State}
 use Rattle.memory.specs.declared.entry.State.TheVariants.{Invalid, Valid, Registered}
-use Rattle.memory.proofs.Owned.{Sound}
+use Rattle.memory.specs.declared.memory.Memory.{Memory as Tables}
 
 -- a core's copy is in its seat
 pub copies_at : (es : List Entry) (c i : ℕ) → i < 64 → copies_of es c i ≡ copy_in (get_or es (seat c i) empty)
@@ -49,17 +51,17 @@ module _ (es : List Entry) (c i : ℕ) (e : Entry) (inside : seat c i < length e
   pub copies_set : copies_of (set es (seat c i) e) ≡ upd2 (copies_of es) c i (copy_in e)
   copies_set = λ t q j. set_at q j t
 
-module _ (os : List (Option ℕ)) (w : ℕ) (o : Option ℕ) (inside : w < length os) where
-  owner_at : (v : ℕ) → owners_of (set os w o) v ≡ upd (owners_of os) w o v
+module _ (os : List (Option Core)) (w : ℕ) (o : Option Core) (inside : w < length os) where
+  owner_at : (v : ℕ) → owners_of (set os w o) v ≡ upd (owners_of os) w (owner_number o) v
   unfolding owners_of
   owner_at v =
       ⊎_elim
-      (λ p. ap (λ (n : ℕ). get_or (set os w o) n None) p.0 ∙ (get_or-set_same os w o None inside ∙ sym p.1))
-      (λ p. get_or-set_other os w v o None p.0 ∙ sym p.1)
-      (upd_cases (owners_of os) w o v)
+      (λ p. ap (λ (n : ℕ). owner_number (get_or (set os w o) n None)) p.0 ∙ (ap owner_number (get_or-set_same os w o None inside) ∙ sym p.1))
+      (λ p. ap owner_number (get_or-set_other os w v o None p.0) ∙ sym p.1)
+      (upd_cases (owners_of os) w (owner_number o) v)
 
   -- an owner set is the table of owners changed
-  pub owners_set : owners_of (set os w o) ≡ upd (owners_of os) w o
+  pub owners_set : owners_of (set os w o) ≡ upd (owners_of os) w (owner_number o)
   owners_set = λ t v. owner_at v t
 
 -- an entry left as it is
@@ -69,7 +71,7 @@ left_same es at s e =
     ∙ set-get_or es at empty
 
 -- a settled entry is written back
-pub settled : (ps : List Word) (es : List Entry) (os : List (Option ℕ)) (c i : ℕ) → seat c i < length es → i < 64 → (get_or es (seat c i) empty).place < length os → memory_of (page_after (done_by (get_or es (seat c i) empty).state Settle) (get_or es (seat c i) empty) ps) (set es (seat c i) (turned (get_or es (seat c i) empty) Settle)) (owners_after (done_by (get_or es (seat c i) empty).state Settle) (get_or es (seat c i) empty) os) ≡ write_back (memory_of ps es os) c i
+pub settled : (ps : List Word) (es : List Entry) (os : List (Option Core)) (c i : ℕ) → seat c i < length es → i < 64 → (get_or es (seat c i) empty).place < length os → memory_of (page_after (done_by (get_or es (seat c i) empty).state Settle) (get_or es (seat c i) empty) ps) (set es (seat c i) (turned (get_or es (seat c i) empty) Settle)) (owners_after (done_by (get_or es (seat c i) empty).state Settle) (get_or es (seat c i) empty) os) ≡ write_back (memory_of ps es os) c i
 settled ps es os c i inside few fits =
     go was.state refl ∙ ap (λ (k : Copy). write_back_by k (memory_of ps es os) c i) (sym (copies_at es c i few))
   where
@@ -84,11 +86,23 @@ settled ps es os c i inside few fits =
     go Registered e =
         same_memory _ _ _ _ _ _ refl (copies_set es c i (record { state = Valid; place = was.place; word = was.word }) inside few) (owners_set os was.place None fits)
 
--- the same, of the lists that a turn leaves
-pub settled_after : (f : Five) (ps ps' : List Word) (es es' : List Entry) (os os' : List (Option ℕ)) (c i : ℕ) → Sound f es os → c < 8 → i < 64 → ps' ≡ page_after (done_by (get_or es (seat c i) empty).state Settle) (get_or es (seat c i) empty) ps → es' ≡ set es (seat c i) (turned (get_or es (seat c i) empty) Settle) → os' ≡ owners_after (done_by (get_or es (seat c i) empty).state Settle) (get_or es (seat c i) empty) os → memory_of ps' es' os' ≡ write_back (memory_of ps es os) c i
-settled_after f ps ps' es es' os os' c i s few_c few_i a b d =
+-- the seat of a core and a slot
+pub seated : (at : Seat) (c i : ℕ) → at.core.number ≡ c → at.slot.number ≡ i → index_of at ≡ seat c i
+seated at c i a b = ap (λ (k : ℕ). seat k at.slot.number) a ∙ ap (seat c) b
+
+-- a number below a limit
+pub limited : {limit : ℕ} (n : Below limit) → n.number < limit
+limited {limit = limit} n = ltb-true n.number limit n.within
+
+-- a seat is one of 512
+pub seat_below : (at : Seat) → index_of at < 512
+seat_below at = omega (arith, limited at.core, limited at.slot)
+
+-- the same, of the lists that a turn of a memory leaves
+pub settled_after : {P : Type 0} (words : P → List Word) (m : Tables P) (ps : List Word) (es : List Entry) (os : List (Option Core)) (at : Seat) → ps ≡ page_after (done_by (get_or m.entries (index_of at) empty).state Settle) (get_or m.entries (index_of at) empty) (words m.page) → es ≡ set m.entries (index_of at) (turned (get_or m.entries (index_of at) empty) Settle) → os ≡ owners_after (done_by (get_or m.entries (index_of at) empty).state Settle) (get_or m.entries (index_of at) empty) m.owners → memory_of ps es os ≡ write_back (view words m) at.core.number at.slot.number
+settled_after words m ps es os at a b d =
     same_memory _ _ _ _ _ _ a (ap copies_of b) (ap owners_of d)
-    ∙ settled ps es os c i (omega (arith, s.caches)) few_i (omega (arith, s.words, ltb-true (get_or es (seat c i) empty).place 4096 (s.placed (seat c i))))
+    ∙ settled (words m.page) m.entries m.owners at.core.number at.slot.number (omega (arith, m.caches, seat_below at)) (limited at.slot) (omega (arith, m.words, ltb-true (get_or m.entries (index_of at) empty).place 4096 (m.placed (index_of at))))
 
 pub settle_writes : (s : State) → is_written (done_by s Settle) ≡ is_registered s
 settle_writes Invalid = refl
@@ -107,7 +121,7 @@ copy_for w e = go e.state (eqb e.place w) refl
     go Registered false h = rw h refl
 
 -- the copy of a word in a core's cache
-pub copy_found : (f : Five) (ps : List Word) (es : List Entry) (os : List (Option ℕ)) (c w at : ℕ) (d : Entry) (s : State) → slot_of f w < 64 → at ≡ seat c (slot_of f w) → at < length es → s ≡ state_for w (get_or es at d) → copy_of f (memory_of ps es os) c w ≡ copy_by s w (get_or es at d).word
+pub copy_found : (f : Five) (ps : List Word) (es : List Entry) (os : List (Option Core)) (c w at : ℕ) (d : Entry) (s : State) → slot_of f w < 64 → at ≡ seat c (slot_of f w) → at < length es → s ≡ state_for w (get_or es at d) → copy_of f (memory_of ps es os) c w ≡ copy_by s w (get_or es at d).word
 copy_found f ps es os c w at d s few seated inside is =
     ap (of_word w) (copies_at es c (slot_of f w) few ∙ ap copy_in (ap (λ (k : ℕ). get_or es k empty) (sym seated) ∙ get_or_default es at empty d inside))
     ∙ (copy_for w (get_or es at d) ∙ ap (λ (t : State). copy_by t w (get_or es at d).word) (sym is))

@@ -25,6 +25,12 @@ copy_in e = copy_by e.state e.place e.word
 abbrev pub empty : Entry
 empty = record { state = Invalid; place = 0; word = blank_word }
 
+-- the number of a state, as an eviction answers it: 0 without a copy, 1 for a valid one, 2 for a registered one
+abbrev pub number_of : State → ℕ
+number_of Invalid = 0
+number_of Valid = 1
+number_of Registered = 2
+
 -- the state that an event leaves: what counts is written and stays readable when it is settled, and goes when its core gives it
 -- up or another core stores the word; what does not count goes but at a settle
 abbrev pub state_after : State → Event → State

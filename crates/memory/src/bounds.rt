@@ -1,59 +1,67 @@
-//! The numbers of cores and of words that a memory has room for, checked once.
-ghost use Rattle.std.specs.Prelude.{◌≡◌, true, ltb, if◌then◌else◌, Some, None, nat_lt};
+//! The numbers of cores, words and slots that a memory has room for, checked once.
+ghost use Rattle.std.specs.Prelude.{◌≡◌, ◌/◌, ◌%◌, ◌<◌, true, ltb, if◌then◌else◌, Some, None, nat_lt};
 ghost use Rattle.std.specs.Option.{option_map};
 
-/// The number of a core: 0 to 7. A memory has a cache for each, whatever its figures.
+/// A number below a limit.
 #[derive(Clone, Copy)]
-pub struct Core {
-    number: u8,
-    ghost within: { nat_lt number 8 ≡ true },
+pub struct Below<const LIMIT: u16> {
+    pub(crate) number: u16,
+    ghost within: { nat_lt number LIMIT ≡ true },
 }
+
+/// The number of a core: 0 to 7. A memory has a cache for each, whatever its figures.
+pub type Core = Below<8>;
 
 /// The place of a word on a page: 0 to 4,095. No page has more words.
+pub type Place = Below<4096>;
+
+/// The number of a slot in a core's cache: 0 to 63. A cache has room for each, whatever the figures.
+pub(crate) type Slot = Below<64>;
+
+impl<const LIMIT: u16> Below<LIMIT> {
+    /// The number as one below the limit, if it is.
+    pub fn new(number: u16) -> Option<Self>
+        ensures { option_map (λ n. n.number) result ≡ (if ltb number LIMIT then Some number else None) }
+    {
+        if number < LIMIT {
+            Some(Below { number })
+        } else {
+            None
+        }
+    }
+}
+
+/// Where a copy stands: in a slot of a core's cache.
 #[derive(Clone, Copy)]
-pub struct Place {
-    number: u16,
-    ghost within: { nat_lt number 4096 ≡ true },
+pub(crate) struct Seat {
+    pub(crate) core: Core,
+    pub(crate) slot: Slot,
 }
 
-impl Core {
-    /// The core with this number, if there can be one.
-    pub fn new(number: u8) -> Option<Core>
-        ensures { option_map (λ c. c.number) result ≡ (if ltb number 8 then Some number else None) }
+impl Seat {
+    ghost use Rattle.memory.specs.Owners.{index_of};
+
+    // The seat at a place among all entries.
+    pub(crate) fn nth(at: usize) -> Seat
+        requires { at < 512 }
+        ensures core { result.core.number ≡ at / 64 }
+        ensures slot { result.slot.number ≡ at % 64 }
     {
-        if number < 8 {
-            Some(Core { number })
-        } else {
-            None
+        Seat {
+            core: Core {
+                number: (at / 64) as u16,
+            },
+            slot: Slot {
+                number: (at % 64) as u16,
+            },
         }
     }
 
-    // Its number.
-    pub(crate) fn number(self) -> u8
-        ensures { result ≡ self.number }
+    // Its place among all entries: 64 for each core.
+    pub(crate) fn index(self) -> usize
+        ensures value { result ≡ index_of self }
+        ensures within { result < 512 }
     {
-        let number = self.number;
-        number
-    }
-}
-
-impl Place {
-    /// The place with this number, if there can be one.
-    pub fn new(number: u16) -> Option<Place>
-        ensures { option_map (λ w. w.number) result ≡ (if ltb number 4096 then Some number else None) }
-    {
-        if number < 4_096 {
-            Some(Place { number })
-        } else {
-            None
-        }
-    }
-
-    // Its number.
-    pub(crate) fn number(self) -> u16
-        ensures { result ≡ self.number }
-    {
-        let number = self.number;
-        number
+        self.core.number as usize * 64 + self.slot.number as usize
     }
 }

@@ -1,6 +1,6 @@
 //! A cache entry and the table of what happens to it: one row for each state and event.
 ghost use Rattle.std.specs.Prelude.{◌≡◌, if◌then◌else◌, nat_eq};
-ghost use Rattle.memory.specs.Entries.{turned, done_by, is_written, is_dropped};
+ghost use Rattle.memory.specs.Entries.{empty, turned, done_by, is_written, is_dropped};
 ghost use Rattle.memory.specs.declared.entry.State.TheVariants.{Invalid};
 
 use word::Word;
@@ -44,24 +44,14 @@ impl Done {
     pub(crate) fn is_written(self) -> bool
         ensures { result ≡ is_written self }
     {
-        match self {
-            Done::Written => true,
-            Done::Kept => false,
-            Done::Dropped => false,
-            Done::Taken => false,
-        }
+        matches!(self, Done::Written)
     }
 
     // Whether a copy that did not count is gone.
     pub(crate) fn is_dropped(self) -> bool
         ensures { result ≡ is_dropped self }
     {
-        match self {
-            Done::Dropped => true,
-            Done::Kept => false,
-            Done::Written => false,
-            Done::Taken => false,
-        }
+        matches!(self, Done::Dropped)
     }
 }
 
@@ -74,17 +64,28 @@ pub struct Entry {
 }
 
 impl Entry {
+    // An entry that holds nothing.
+    pub(crate) fn empty() -> Entry
+        ensures { result ≡ empty }
+    {
+        Entry {
+            state: State::Invalid,
+            place: 0,
+            word: Word::blank(),
+        }
+    }
+
     // What an event does to the entry, by its state.
     pub(crate) fn turn(&mut self, event: Event) -> Done
         ensures after { self.new ≡ turned self.old event }
         ensures answer { result ≡ done_by self.old.state event }
     {
         match (self.state, event) {
-            (State::Invalid, _) => Done::Kept,
-            (State::Valid, Event::Settle) => Done::Kept,
-            (State::Valid, Event::Evict) => self.leave(State::Invalid, Done::Dropped),
-            (State::Valid, Event::Taken) => self.leave(State::Invalid, Done::Dropped),
-            (State::Valid, Event::Fade) => self.leave(State::Invalid, Done::Dropped),
+            (State::Invalid, _) | (State::Valid, Event::Settle) => Done::Kept,
+            (State::Valid, Event::Evict | Event::Taken | Event::Fade) => self.leave(
+                State::Invalid,
+                Done::Dropped,
+            ),
             (State::Registered, Event::Settle) => self.leave(State::Valid, Done::Written),
             (State::Registered, Event::Evict) => self.leave(State::Invalid, Done::Written),
             (State::Registered, Event::Taken) => self.leave(State::Invalid, Done::Taken),

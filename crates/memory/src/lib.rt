@@ -7,7 +7,7 @@ pub mod entry;
 pub mod memory;
 pub mod mode;
 
-pub use bounds::{Core, Place};
+pub use bounds::{Below, Core, Place};
 pub use entry::{Done, Entry, Event, State};
 pub use memory::Memory;
 pub use mode::{Mode, has_bad_mode, mode_of};

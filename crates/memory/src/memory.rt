@@ -5,6 +5,7 @@ ghost use Rattle.call.specs.Figures.{figures as numbers};
 ghost use Rattle.memory.specs.Entries.{empty};
 ghost use Rattle.memory.specs.Owners.{holds};
 
+use crate::bounds::Core;
 use crate::entry::Entry;
 use call::Figures;
 
@@ -24,7 +25,7 @@ pub struct Memory<P> {
     figures: Figures,
     page: P,
     entries: [Entry; 512],
-    owners: [Option<u8>; 4096],
+    owners: [Option<Core>; 4096],
     ghost caches: { length entries ≡ 512 },
     ghost words: { length owners ≡ 4096 },
     ghost placed: { (at : ℕ) → nat_lt (get_or entries at empty).place 4096 ≡ true },

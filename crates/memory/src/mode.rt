@@ -31,12 +31,10 @@ fn mode_of_bits(bits: u8) -> Mode
     requires { bits < 16 }
     ensures { mode_in result ≡ mode_of_bits bits }
 {
-    if bits == 0 {
-        Mode::ReadOnly
-    } else if bits >= 8 {
-        Mode::Locked(bits - 8)
-    } else {
-        Mode::Written
+    match bits {
+        0 => Mode::ReadOnly,
+        1..=7 => Mode::Written,
+        _ => Mode::Locked(bits - 8),
     }
 }
 
@@ -51,8 +49,7 @@ pub fn mode_of(figures: &Figures, plan: u64, word: u16) -> Mode
 fn is_bad(plan: u64, strip: u16) -> bool
     ensures { result ≡ bad_at plan strip }
 {
-    let bits = bits(plan, strip);
-    2 <= bits && bits <= 7
+    matches!(bits(plan, strip), 2..=7)
 }
 
 /// Whether a plan has a mode from 2 to 7 in one of its sixteen strips, also in one without words.

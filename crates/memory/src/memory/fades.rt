@@ -17,11 +17,7 @@ use page::PageStore;
 fn goes_at_end(figures: &Figures, plan: u64, word: u16) -> bool
     ensures { result ≡ goes (numbers figures.now) plan word }
 {
-    match mode_of(figures, plan, word) {
-        Mode::ReadOnly => false,
-        Mode::Written => true,
-        Mode::Locked(_) => true,
-    }
+    !matches!(mode_of(figures, plan, word), Mode::ReadOnly)
 }
 
 // The end of a phase at one entry: whether its copy is dropped.

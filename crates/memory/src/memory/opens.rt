@@ -7,30 +7,11 @@ ghost use Rattle.memory.specs.Entries.{empty};
 ghost use Rattle.memory.specs.Views.{view};
 
 use super::Memory;
-use super::loads::{blank_word, page_word};
-use crate::entry::{Entry, State};
+use super::loads::page_word;
+use crate::entry::Entry;
 use call::Figures;
 use page::PageStore;
-use word::{Mark, Word};
-
-// 512 entries that hold nothing.
-fn empty_entries() -> [Entry; 512]
-    ensures { result ≡ replicate 512 empty }
-{
-    let nothing = Entry {
-        state: State::Invalid,
-        place: 0,
-        word: blank_word(),
-    };
-    [nothing; 512]
-}
-
-// No owners.
-fn no_owners() -> [Option<u8>; 4096]
-    ensures { result ≡ replicate 4096 None }
-{
-    [None; 4096]
-}
+use word::Word;
 
 // The same value with a blank mark.
 fn without_mark(x: Word) -> Word
@@ -38,7 +19,7 @@ fn without_mark(x: Word) -> Word
 {
     Word {
         value: x.value,
-        mark: Mark::blank(),
+        ..Word::blank()
     }
 }
 
@@ -66,9 +47,7 @@ pub(super) fn size_with<P: PageStore>(figures: &Figures, page: &P) -> u16
     ensures inside { result ≤ length (P.words page.now) }
     ensures most { result ≤ 4096 }
 {
-    let allowed = figures.words();
-    let there = page.size();
-    if allowed < there { allowed } else { there }
+    figures.words().min(page.size())
 }
 
 impl<P: PageStore> Memory<P> {
@@ -83,8 +62,8 @@ impl<P: PageStore> Memory<P> {
         Memory {
             figures,
             page,
-            entries: empty_entries(),
-            owners: no_owners(),
+            entries: [Entry::empty(); 512],
+            owners: [None; 4096],
         }
     }
 
@@ -92,12 +71,6 @@ impl<P: PageStore> Memory<P> {
     pub fn into_page(self) -> P
         ensures { result ≡ self.page }
     {
-        let Memory {
-            figures: _,
-            page,
-            entries: _,
-            owners: _,
-        } = self;
-        page
+        self.page
     }
 }

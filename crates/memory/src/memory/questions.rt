@@ -8,6 +8,7 @@ ghost use Rattle.memory.specs.Views.{view, five_of};
 use super::Memory;
 use super::loads::page_word;
 use super::opens::size_with;
+use crate::bounds::Place;
 use call::Figures;
 use page::PageStore;
 use word::Word;
@@ -33,11 +34,9 @@ impl<P: PageStore> Memory<P> {
     pub fn owner(&self, word: u16) -> Option<u8>
         ensures { result ≡ (view P.words self.now).owners word }
     {
-        if word < 4_096 {
-            self.owner_at(word)
-        } else {
-            None
-        }
+        let place = Place::new(word)?;
+        let owner = self.owner_at(place)?;
+        Some(owner.number as u8)
     }
 
     /// The page's word at a place, whoever owns it; past the page's end a blank word.

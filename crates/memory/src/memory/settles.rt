@@ -8,6 +8,7 @@ ghost use Rattle.memory.specs.Views.{view, five_of};
 ghost use Rattle.memory.specs.Walks.{within as has};
 
 use super::Memory;
+use crate::bounds::Seat;
 use call::Figures;
 use page::PageStore;
 
@@ -19,13 +20,6 @@ pub(super) fn is_within(figures: &Figures, at: usize) -> bool
 }
 
 impl<P: PageStore> Memory<P> {
-    // Whether this memory's figures have that core and that slot.
-    fn within(&self, at: usize) -> bool
-        ensures { result ≡ has (five_of self.now) at }
-    {
-        is_within(&self.figures, at)
-    }
-
     // One entry written back, if the figures have it: 1 for a registered copy, 0 for any other.
     fn settle_at(&mut self, at: usize) -> u16
         requires { at < 512 }
@@ -34,7 +28,7 @@ impl<P: PageStore> Memory<P> {
         ensures after { view P.words self.new ≡ (if has (five_of self.old) at then write_back (view P.words self.old) (at / 64) (at % 64) else view P.words self.old) }
         ensures answer { result ≡ cond {A = ℕ} (has (five_of self.old) at && is_registered (get_or self.old.entries at empty).state) 1 0 }
     {
-        if self.within(at) && self.write_back((at / 64) as u8, (at % 64) as u8) {
+        if is_within(&self.figures, at) && self.write_back(Seat::nth(at)) {
             1
         } else {
             0

@@ -2,11 +2,12 @@
 ghost use Rattle.std.specs.Prelude.{◌≡◌, ◌<◌, length, get_or, slice_index_or, slice_set};
 ghost use Rattle.rules.specs.Effects.{write_back};
 ghost use Rattle.memory.specs.Entries.{empty, turned, done_by};
-ghost use Rattle.memory.specs.Owners.{seat, is_registered};
+ghost use Rattle.memory.specs.Owners.{index_of, is_registered};
 ghost use Rattle.memory.specs.Views.{view, page_after, owners_after};
 ghost use Rattle.memory.specs.declared.entry.Event.TheVariants.{Settle};
 
 use super::Memory;
+use crate::bounds::Seat;
 use crate::entry::{Done, Entry, Event};
 use page::PageStore;
 
@@ -19,66 +20,38 @@ fn turn_in(entries: &mut [Entry], at: usize, event: Event) -> Done
     entries[at].turn(event)
 }
 
-// An event at one of some entries, with what is due for the page and for the owners. The place of a word that is due may
-// lie past the page's end: then the page has no such word, and the answer of the write may be let go.
-fn turn_all<P: PageStore>(
-    page: &mut P,
-    entries: &mut [Entry],
-    owners: &mut [Option<u8>],
-    at: usize,
-    event: Event,
-) -> Done
-    requires { (at < length entries.old) × ((get_or entries.old at empty).place < length owners.old) }
-    ensures entries { entries.new ≡ slice_set entries.old at (turned (slice_index_or entries.old at empty) event) }
-    ensures page { P.words page.new ≡ page_after (done_by (get_or entries.old at empty).state event) (slice_index_or entries.old at empty) (P.words page.old) }
-    ensures owners { owners.new ≡ owners_after (done_by (get_or entries.old at empty).state event) (slice_index_or entries.old at empty) owners.old }
-    ensures answer { result ≡ done_by (get_or entries.old at empty).state event }
-{
-    let held = entries[at];
-    let done = turn_in(entries, at, event);
-    match done {
-        Done::Kept => {}
-        Done::Dropped => {}
-        Done::Written => {
-            owners[held.place as usize] = None;
-            let _ = page.write(held.place, held.word);
-        }
-        Done::Taken => {
-            owners[held.place as usize] = None;
-        }
-    }
-    done
-}
-
 impl<P: PageStore> Memory<P> {
-    // An event at an entry of this memory.
-    pub(super) fn turn_at(&mut self, at: usize, event: Event) -> Done
-        requires { at < 512 }
+    // An event at an entry, with what is due for the page and for the owners. The place of a word that is due may lie past the
+    // page's end: then the page has no such word, and the answer of the write may be let go.
+    pub(super) fn turn_at(&mut self, at: Seat, event: Event) -> Done
         ensures figures { self.new.figures ≡ self.old.figures }
-        ensures entries { self.new.entries ≡ slice_set self.old.entries at (turned (slice_index_or self.old.entries at empty) event) }
-        ensures page { P.words self.new.page ≡ page_after (done_by (get_or self.old.entries at empty).state event) (slice_index_or self.old.entries at empty) (P.words self.old.page) }
-        ensures owners { self.new.owners ≡ owners_after (done_by (get_or self.old.entries at empty).state event) (slice_index_or self.old.entries at empty) self.old.owners }
-        ensures answer { result ≡ done_by (get_or self.old.entries at empty).state event }
+        ensures entries { self.new.entries ≡ slice_set self.old.entries (index_of at) (turned (slice_index_or self.old.entries (index_of at) empty) event) }
+        ensures page { P.words self.new.page ≡ page_after (done_by (get_or self.old.entries (index_of at) empty).state event) (slice_index_or self.old.entries (index_of at) empty) (P.words self.old.page) }
+        ensures owners { self.new.owners ≡ owners_after (done_by (get_or self.old.entries (index_of at) empty).state event) (slice_index_or self.old.entries (index_of at) empty) self.old.owners }
+        ensures answer { result ≡ done_by (get_or self.old.entries (index_of at) empty).state event }
     {
-        turn_all(
-            &mut self.page,
-            &mut self.entries,
-            &mut self.owners,
-            at,
-            event,
-        )
+        let at = at.index();
+        let held = self.entries[at];
+        let done = turn_in(&mut self.entries, at, event);
+        match done {
+            Done::Kept | Done::Dropped => {}
+            Done::Written => {
+                self.owners[held.place as usize] = None;
+                let _ = self.page.write(held.place, held.word);
+            }
+            Done::Taken => self.owners[held.place as usize] = None,
+        }
+        done
     }
 
     // A slot's registered copy is written to the page, loses its owner and becomes valid; any other copy stays. Whether
     // there was one.
-    pub(super) fn write_back(&mut self, core: u8, slot: u8) -> bool
-        requires { (core < 8) × (slot < 64) }
+    pub(super) fn write_back(&mut self, at: Seat) -> bool
         ensures figures { self.new.figures ≡ self.old.figures }
-        ensures entries { self.new.entries ≡ slice_set self.old.entries (seat core slot) (turned (slice_index_or self.old.entries (seat core slot) empty) Settle) }
-        ensures after { view P.words self.new ≡ write_back (view P.words self.old) core slot }
-        ensures answer { result ≡ is_registered (get_or self.old.entries (seat core slot) empty).state }
+        ensures entries { self.new.entries ≡ slice_set self.old.entries (index_of at) (turned (slice_index_or self.old.entries (index_of at) empty) Settle) }
+        ensures after { view P.words self.new ≡ write_back (view P.words self.old) at.core.number at.slot.number }
+        ensures answer { result ≡ is_registered (get_or self.old.entries (index_of at) empty).state }
     {
-        let at = core as usize * 64 + slot as usize;
         self.turn_at(at, Event::Settle).is_written()
     }
 }

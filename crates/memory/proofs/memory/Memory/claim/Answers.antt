@@ -1,9 +1,11 @@
-use Rattle.std.proofs.Common.{get_or, None, ap, ◌∙◌, arith}
-use Rattle.call.specs.Figures.{figures}
-use Rattle.memory.specs.Owners.{seat}
+use Rattle.std.proofs.Common.{get_or, None, ap, sym, ◌∙◌, arith}
+use Rattle.call.specs.Figures.{figures, slot_of}
+use Rattle.memory.specs.Owners.{index_of}
 use Rattle.memory.specs.Views.{view}
 use Rattle.memory.proofs.Loads.{settled_idle}
+use Rattle.memory.proofs.Owned.{sound_of}
 use Rattle.memory.proofs.Stores.{claim_steps, taken_idle_after}
+use Rattle.memory.proofs.Views.{limited, seat_below}
 use Rattle.memory.proofs.memory.Memory.claim.Goals as goal
 
 pub register-requires : goal.register-requires
@@ -11,9 +13,14 @@ register-requires g c =
     let m = c.args.self.now in
     let a = c.write_back.new.self in
     let b = c.take-answer.new.self in
+    let at = c.seat-at.result in
+    let w = c.args.word.number in
     let wrote = c.write_back.ensures in
     let took = c.take-answer.ensures in
-    (c.requires.0, (c.requires.1, taken_idle_after (figures m.figures) (figures a.figures) (figures b.figures) m.entries a.entries b.entries (get_or a.owners c.args.word None) c.args.core c.args.word c.slot-slot.result (ap figures wrote.figures) (ap figures took.figures) c.slot-slot.ensures.value (omega (arith, m.caches)) (omega (arith, a.caches)) wrote.entries took.entries))
+    record {
+      seated = c.seat-at.ensures.slot ∙ sym (ap (λ f. slot_of (figures f) w) (took.figures ∙ wrote.figures));
+      idle = taken_idle_after (figures a.figures) m.entries a.entries b.entries (get_or a.owners w None) w (index_of at) (omega (arith, m.caches, seat_below at)) (omega (arith, a.caches, seat_below at)) wrote.entries took.entries;
+    }
 
 pub returns : goal.returns
 returns g c =
@@ -22,10 +29,11 @@ returns g c =
     let a = c.write_back.new.self in
     let b = c.take-answer.new.self in
     let d = c.register.new.self in
+    let at = c.seat-at.result in
     let wrote = c.write_back.ensures in
     let took = c.take-answer.ensures in
     let put = c.register.ensures in
-    let steps = claim_steps (figures m.figures) (figures a.figures) (figures b.figures) (view words m) (words a.page) (words b.page) (words d.page) a.entries b.entries d.entries a.owners b.owners d.owners c.args.core c.args.word c.slot-slot.result c.take-answer.result c.args.stored (ap figures wrote.figures) (ap figures took.figures) c.slot-slot.ensures.value c.slot-slot.ensures.within c.requires.0 c.requires.1 (record { caches = a.caches; words = a.words; placed = a.placed; owned = a.owned }) (settled_idle m.entries a.entries (seat c.args.core c.slot-slot.result) (omega (arith, m.caches)) wrote.entries) wrote.after took.answer took.page took.entries took.owners put.page put.entries put.owners in
+    let steps = claim_steps (figures m.figures) (figures a.figures) (view words m) (words a.page) (words b.page) (words d.page) a.entries b.entries d.entries a.owners b.owners d.owners at c.args.core.number c.args.word.number c.take-answer.result c.args.stored (ap figures wrote.figures) c.seat-at.ensures.core c.seat-at.ensures.slot (limited c.args.word) (sound_of a) (settled_idle m.entries a.entries (index_of at) (omega (arith, m.caches, seat_below at)) wrote.entries) wrote.after took.answer took.page took.entries took.owners put.page put.entries put.owners in
     record {
       figures = put.figures ∙ (took.figures ∙ wrote.figures);
       answer = steps.answer;
