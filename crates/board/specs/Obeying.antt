@@ -7,7 +7,9 @@ use Rattle.call.specs.declared.answer.AnswerRecord.{AnswerRecord}
 use Rattle.call.specs.declared.call.Call.{Call}
 use Rattle.call.specs.declared.refusal.Refusal.{Refusal}
 use Rattle.locks.specs.declared.grant.Grant.{Grant}
+use Rattle.memory.specs.Entries.{number_of}
 use Rattle.memory.specs.Views as memory
+use Rattle.memory.specs.declared.entry.State.{State}
 use Rattle.races.specs.Remembered.{Remembers}
 use Rattle.rules.specs.Refusals.{refusal}
 use Rattle.rules.specs.State.{Accessed}
@@ -71,6 +73,11 @@ of_load (Err r) = Err r
 abbrev pub of_store : Result (ℕ × Mark) Refusal → Result Answer Refusal
 of_store (Ok p) = Ok (Stored p.0 p.1)
 of_store (Err r) = Err r
+
+-- what an evict answers
+abbrev pub of_evict : Result State Refusal → Result Answer Refusal
+of_evict (Ok state) = Ok (Done (number_of state))
+of_evict (Err r) = Err r
 
 -- what an acquire answers
 abbrev pub of_acquire : Result Grant Refusal → Result Answer Refusal

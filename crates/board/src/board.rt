@@ -7,7 +7,6 @@ use memory::Memory;
 use races::Races;
 
 pub mod answers;
-mod bounds;
 pub mod checks;
 pub mod loads;
 pub mod opens;

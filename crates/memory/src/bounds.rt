@@ -31,6 +31,24 @@ impl<const LIMIT: u16> Below<LIMIT> {
     }
 }
 
+/// A core's number.
+impl From<Core> for u8 {
+    ghost from_gives = { λ core number. number ≡ core.number };
+
+    fn from(core: Core) -> u8 {
+        core.number as u8
+    }
+}
+
+/// A place's number.
+impl From<Place> for u16 {
+    ghost from_gives = { λ place number. number ≡ place.number };
+
+    fn from(place: Place) -> u16 {
+        place.number
+    }
+}
+
 /// Where a copy stands: in a slot of a core's cache.
 #[derive(Clone, Copy)]
 pub(crate) struct Seat {

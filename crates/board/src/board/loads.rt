@@ -1,5 +1,5 @@
 //! Loads: the word, with where it came from.
-ghost use Rattle.std.specs.Prelude.{◌≡◌, ◌<◌, ◌&&◌, Ok};
+ghost use Rattle.std.specs.Prelude.{◌≡◌, ◌&&◌, Ok};
 ghost use Rattle.call.specs.Figures.{figures};
 ghost use Rattle.call.specs.declared.answer.Answer.TheVariants.{Loaded};
 ghost use Rattle.call.specs.declared.call.Call.TheVariants.{Load};
@@ -7,33 +7,30 @@ ghost use Rattle.rules.specs.Plans.{mode_of, is_locked};
 ghost use Rattle.board.specs.Obeying.{Performs, Obeys, of_load};
 
 use super::Board;
-use super::bounds::{core_at, place_at};
 use call::{Access, Refusal};
-use memory::Mode;
+use memory::{Core, Mode, Place};
 use page::PageStore;
 use signature::Signature;
 use word::Word;
 
 impl<P: PageStore, S: Signature> Board<P, S> {
     // Whether the core may have an old copy of the word: in a locked strip, where its signature holds the word.
-    fn may_be_old(&self, core: u8, word: u16) -> bool
-        ensures { result ≡ is_locked (mode_of (figures self.now.memory.figures) self.now.plan word) && S.operations.holds self.now.signature core word }
+    fn may_be_old(&self, core: Core, word: Place) -> bool
+        ensures { result ≡ is_locked (mode_of (figures self.now.memory.figures) self.now.plan word.number) && S.operations.holds self.now.signature core.number word.number }
     {
         match self.mode(word) {
-            Mode::ReadOnly => false,
-            Mode::Written => false,
-            Mode::Locked(_) => self.signature.ask(core, word),
+            Mode::ReadOnly | Mode::Written => false,
+            Mode::Locked(_) => self.signature.ask(core.into(), word.into()),
         }
     }
 
     // A load that no check refuses.
-    fn give(&mut self, core: u8, word: u16) -> (Word, u8)
-        requires { (core < 8) × (word < 4096) }
-        ensures { Performs P.words S.operations self.old self.new (Load core word) (Ok (Loaded result.0 result.1)) }
+    fn give(&mut self, core: Core, word: Place) -> (Word, u8)
+        ensures { Performs P.words S.operations self.old self.new (Load core.number word.number) (Ok (Loaded result.0 result.1)) }
     {
         let again = self.may_be_old(core, word);
-        let found = self.memory.load(core_at(core), place_at(word), again);
-        self.races.note(Access::Load, core, word);
+        let found = self.memory.load(core, word, again);
+        self.races.note(Access::Load, core.into(), word.into());
         found
     }
 
@@ -43,7 +40,7 @@ impl<P: PageStore, S: Signature> Board<P, S> {
     pub fn load(&mut self, core: u8, word: u16) -> Result<(Word, u8), Refusal>
         ensures { Obeys P.words S.operations self.old self.new (Load core word) (of_load result) }
     {
-        self.check_load(core, word)?;
+        let (core, word) = self.check_load(core, word)?;
         Ok(self.give(core, word))
     }
 }

@@ -1,8 +1,9 @@
-use Rattle.std.proofs.Common.{sym, refl, ap, ◌∙◌, Ok}
+use Rattle.std.proofs.Common.{ℕ, ◌<◌, subst, sym, refl, ap, ◌∙◌, Ok}
 use Rattle.std.proofs.lemmas.Result.{err_from_is_err_and}
 use Rattle.call.specs.Figures.{figures}
 use Rattle.call.specs.declared.answer.Answer.TheVariants.{Done}
 use Rattle.locks.specs.Views.{locks_of}
+use Rattle.memory.proofs.Views.{limited}
 use Rattle.rules.specs.Steps.{changed_by}
 use Rattle.board.proofs.Performing.{same_state}
 use Rattle.board.proofs.Turns.{acquire_told, told_err, told_ok, left_refused, left_done, grant_tells}
@@ -12,7 +13,7 @@ pub returns-in_err-grant : goal.returns-in_err-grant
 returns-in_err-grant g c =
     let b = c.args.self.now in
     let p = err_from_is_err_and c.from_residual-in_err-grant.result c.from_residual-in_err-grant.ensures.1 in
-    let rows = acquire_told (locks_of b.locks) (figures b.memory.figures).cores c.args.core c.args.lock c.in_ok-check_core.ensures.within c.in_ok-check_core.ensures.told in
+    let rows = acquire_told (locks_of b.locks) (figures b.memory.figures).cores c.args.core c.args.lock (subst (λ (n : ℕ). n < 8) c.in_ok-check_core.ensures.found (limited c.in_ok-check_core.field-0)) c.in_ok-check_core.ensures.told in
     let met = told_err _ _ _ c.in_err-grant.ensures.answer in
     rw (p.1, p.2)
     (record {
@@ -36,7 +37,7 @@ returns-in_err-grant g c =
 pub returns : goal.returns
 returns g c =
     let b = c.args.self.now in
-    let rows = acquire_told (locks_of b.locks) (figures b.memory.figures).cores c.args.core c.args.lock c.in_ok-check_core.ensures.within c.in_ok-check_core.ensures.told in
+    let rows = acquire_told (locks_of b.locks) (figures b.memory.figures).cores c.args.core c.args.lock (subst (λ (n : ℕ). n < 8) c.in_ok-check_core.ensures.found (limited c.in_ok-check_core.field-0)) c.in_ok-check_core.ensures.told in
     let got = told_ok _ _ _ c.in_ok-grant.ensures.answer in
     let tells = grant_tells (locks_of b.locks c.args.lock).holder (locks_of b.locks c.args.lock) c.in_ok-grant.grant c.args.core got.1 in
     record {

@@ -3,28 +3,42 @@ use Rattle.std.proofs.lemmas.Result.{err_from_is_err_and}
 use Rattle.call.specs.declared.call.Call.TheVariants.{Evict}
 use Rattle.rules.specs.Refusals.{rows}
 use Rattle.board.specs.Views.{setting_of, ledger_of}
-use Rattle.board.proofs.Checks.{first_met, first_past, row_met, row_past, where_passed}
+use Rattle.board.proofs.Checks.{first_met, first_past, row_met, row_past}
 use Rattle.board.proofs.board.Board.check_load.Goals as goal
 
-pub returns-in_err-check_word : goal.returns-in_err-check_word
-returns-in_err-check_word g c =
+pub returns-in_err-core-clause-told : goal.returns-in_err-core-clause-told
+returns-in_err-core-clause-told g c =
     let b = c.args.self.now in
     let p = err_from_is_err_and c.from_residual.result c.from_residual.ensures.1 in
-    rw (p.1, p.2) (record { told = λ accesses m. first_met (rows (setting_of b) (ledger_of b accesses) (Evict c.args.core c.args.word)) _ _ (c.in_err-check_word.ensures.told accesses m); within = tt })
+    rw (p.1, p.2) (λ accesses m. first_met (rows (setting_of b) (ledger_of b accesses) (Evict c.args.core c.args.word)) _ _ (c.in_err-core.ensures.told accesses m))
 
-pub returns-in_err-check_waiting : goal.returns-in_err-check_waiting
-returns-in_err-check_waiting g c =
+pub returns-in_err-check_waiting-clause-told : goal.returns-in_err-check_waiting-clause-told
+returns-in_err-check_waiting-clause-told g c =
     let b = c.args.self.now in
     let p = err_from_is_err_and c.from_residual-in_err-check_waiting.result c.from_residual-in_err-check_waiting.ensures.1 in
-    rw (p.1, p.2) (record { told = λ accesses m. row_met _ _ _ c.in_err-check_waiting.ensures ∙ first_past (rows (setting_of b) (ledger_of b accesses) (Evict c.args.core c.args.word)) _ (c.in_ok-check_word.ensures.told accesses m); within = tt })
+    let waiting = rw c.in_ok-core.ensures.found.0 at c.in_err-check_waiting.ensures in
+    rw (p.1, p.2) (λ accesses m. row_met _ _ _ waiting ∙ first_past (rows (setting_of b) (ledger_of b accesses) (Evict c.args.core c.args.word)) _ (c.in_ok-core.ensures.told accesses m))
 
-pub returns : goal.returns
-returns g c =
+pub returns-in_err-check_load_mode-clause-told : goal.returns-in_err-check_load_mode-clause-told
+returns-in_err-check_load_mode-clause-told g c =
     let b = c.args.self.now in
-    record {
-      told = λ accesses m.
-          c.check_load_mode.ensures accesses m
-          ∙ (row_past _ _ c.in_ok-check_waiting.ensures
-          ∙ first_past (rows (setting_of b) (ledger_of b accesses) (Evict c.args.core c.args.word)) _ (c.in_ok-check_word.ensures.told accesses m));
-      within = where_passed c.check_load_mode.result c.in_ok-check_word.ensures.within;
-    }
+    let p = err_from_is_err_and c.from_residual-in_err-check_load_mode.result c.from_residual-in_err-check_load_mode.ensures.1 in
+    let found = c.in_ok-core.ensures.found in
+    let waiting = rw found.0 at c.in_ok-check_waiting.ensures in
+    let mode = rw (found.0, found.1) at c.in_err-check_load_mode.ensures in
+    rw (p.1, p.2)
+    (λ accesses m.
+        mode accesses m
+        ∙ (row_past _ _ waiting
+        ∙ first_past (rows (setting_of b) (ledger_of b accesses) (Evict c.args.core c.args.word)) _ (c.in_ok-core.ensures.told accesses m)))
+
+pub returns-clause-told : goal.returns-clause-told
+returns-clause-told g c =
+    let b = c.args.self.now in
+    let found = c.in_ok-core.ensures.found in
+    let waiting = rw found.0 at c.in_ok-check_waiting.ensures in
+    let mode = rw (found.0, found.1) at c.in_ok-check_load_mode.ensures in
+    λ accesses m.
+    mode accesses m
+    ∙ (row_past _ _ waiting
+    ∙ first_past (rows (setting_of b) (ledger_of b accesses) (Evict c.args.core c.args.word)) _ (c.in_ok-core.ensures.told accesses m))

@@ -9,17 +9,18 @@ invariant_of-self-clause-some g c = some_kept c.args.self.now.races c.note.new.s
 
 pub returns : goal.returns
 returns g c =
-    let word = rw (c.core_at.ensures, c.place_at.ensures, c.may_be_old-again.ensures) at c.load-found.ensures.word in
-    let source = rw (c.core_at.ensures, c.place_at.ensures, c.may_be_old-again.ensures) at c.load-found.ensures.source in
-    let after = rw (c.core_at.ensures, c.place_at.ensures, c.may_be_old-again.ensures) at c.load-found.ensures.after in
+    let found = c.load-found.ensures in
+    let word = rw c.may_be_old-again.ensures at found.word in
+    let source = rw c.may_be_old-again.ensures at found.source in
+    let after = rw c.may_be_old-again.ensures at found.after in
     record {
-      figures = c.load-found.ensures.figures;
+      figures = found.figures;
       size = refl;
       rules = λ accesses m.
           record {
             answer = λ i. Ok (Loaded (word i) (source i));
             state = same_state after refl refl refl;
-            remembers = c.note.ensures accesses m;
+            remembers = rw (c.into.ensures, c.into-2.ensures) at c.note.ensures accesses m;
             signature = refl;
           };
     }

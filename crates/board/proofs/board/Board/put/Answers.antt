@@ -1,5 +1,6 @@
-use Rattle.std.proofs.Common.{refl, arith, Ok}
+use Rattle.std.proofs.Common.{ℕ, ◌<◌, sym, subst, refl, arith, Ok}
 use Rattle.call.specs.declared.answer.Answer.TheVariants.{Stored}
+use Rattle.memory.proofs.Views.{limited}
 use Rattle.board.specs.Views.{counts_of}
 use Rattle.board.proofs.Counts.{counts_set}
 use Rattle.board.proofs.Performing.{same_state}
@@ -8,7 +9,9 @@ use Rattle.board.proofs.board.Board.put.Goals as goal
 
 pub overflow_add-self : goal.overflow_add-self
 unfolding counts_of
-overflow_add-self g c = omega (arith, c.requires)
+overflow_add-self g c =
+    let few = subst (λ (n : ℕ). counts_of c.args.self.now.counts n < 1000000) (sym c.from.ensures) c.requires in
+    omega (arith, few)
 
 pub invariant_of-self-clause-some : goal.invariant_of-self-clause-some
 invariant_of-self-clause-some g c = some_kept c.args.self.now.races c.note.new.self _ c.note.ensures c.args.self.now.some
@@ -16,16 +19,16 @@ invariant_of-self-clause-some g c = some_kept c.args.self.now.races c.note.new.s
 pub returns : goal.returns
 unfolding counts_of
 returns g c =
-    let answer = rw (c.core_at.ensures, c.place_at.ensures, c.next_mark-mark.ensures) at c.store-answer.ensures.answer in
-    let after = rw (c.core_at.ensures, c.place_at.ensures, c.next_mark-mark.ensures) at c.store-answer.ensures.after in
+    let answer = rw c.next_mark-mark.ensures at c.store-answer.ensures.answer in
+    let after = rw c.next_mark-mark.ensures at c.store-answer.ensures.after in
     record {
       figures = c.store-answer.ensures.figures;
       size = refl;
       rules = λ accesses m.
           record {
             answer = λ i. Ok (Stored (answer i) (c.next_mark-mark.ensures i));
-            state = same_state after refl (counts_set c.args.self.now.counts c.args.core _ (omega (arith, c.args.self.now.eight))) refl;
-            remembers = c.note.ensures accesses m;
+            state = same_state after refl (rw c.from.ensures (counts_set c.args.self.now.counts c.args.core.number _ (omega (arith, c.args.self.now.eight, limited c.args.core)))) refl;
+            remembers = rw (c.into.ensures, c.into-2.ensures) at c.note.ensures accesses m;
             signature = rw c.mode-mode.ensures at c.sign.ensures;
           };
     }
