@@ -1,23 +1,22 @@
 //! What is done to the locks, and what can be asked of them.
 ghost use Rattle.std.specs.Prelude.{◌≡◌, ℕ, ◌<◌, true, false, map, length, replicate, IfSome, IfOk};
+ghost use Rattle.call.specs.declared.refusal.Refusal.TheVariants as refusals;
 ghost use Rattle.rules.specs.Refusals.{waits, holds, holds_some, some_held};
 ghost use Rattle.rules.specs.State.{free};
 ghost use Rattle.rules.specs.Steps.{acquired_by, released_to, forgetting};
 ghost use Rattle.rules.specs.Tables.{upd};
 ghost use Rattle.locks.specs.Acquire.{acquire_answer, acquire_after};
 ghost use Rattle.locks.specs.Release.{release_answer, release_after};
-ghost use Rattle.locks.specs.Rows.{lock_of, granted, passed_to};
-ghost use Rattle.locks.specs.Ties.{waiting, holding};
+ghost use Rattle.locks.specs.Rows.{granted, passed_to};
 ghost use Rattle.locks.specs.Views.{locks_of, does};
 ghost use Rattle.locks.specs.declared.attendance.Attendance.TheVariants.{Away, Holds};
 
 use super::Locks;
-use crate::attendance::Attendance;
-use crate::attendance::methods::hand_over;
+use crate::attendance::{Attendance, hand_over};
 use crate::grant::Grant;
 use crate::row::Row;
-use crate::row::several::{acquire_at, any_held, forget_all, holder_at, release_at};
 use call::Refusal;
+use std::array;
 
 impl Locks {
     /// Eight locks that nobody holds.
@@ -25,7 +24,7 @@ impl Locks {
         ensures { locks_of result ≡ (λ _. free) }
     {
         Locks {
-            rows: [Row::free(); 8],
+            rows: array::from_fn(|_| Row::free()),
             cores: [Attendance::Away; 8],
         }
     }
@@ -34,10 +33,10 @@ impl Locks {
     fn does(&self, core: u8) -> Attendance
         ensures { result ≡ does self.now core }
     {
-        if core >= 8 {
-            return Attendance::Away;
-        }
-        self.cores[core as usize]
+        self.cores
+            .get(core as usize)
+            .copied()
+            .unwrap_or(Attendance::Away)
     }
 
     /// Whether the core waits for a lock.
@@ -51,17 +50,14 @@ impl Locks {
     pub fn holds(&self, core: u8, lock: u8) -> bool
         ensures { result ≡ holds (locks_of self.now) core lock }
     {
-        match holder_at(&self.rows, lock) {
-            Some(holder) => holder == core,
-            None => false,
-        }
+        self.does(core).holds(lock)
     }
 
     /// Whether some lock is held.
     pub fn some_held(&self) -> bool
         ensures { result ≡ some_held (locks_of self.now) }
     {
-        any_held(&self.rows)
+        self.rows.iter().any(|row| row.holder().is_some())
     }
 
     // Whether the core holds some lock.
@@ -98,7 +94,7 @@ impl Locks {
         ensures answer { result ≡ granted (locks_of self.old lock).holder (locks_of self.old lock) }
         ensures after { locks_of self.new ≡ upd (locks_of self.old) lock (acquired_by (locks_of self.old lock).holder (locks_of self.old lock) core) }
     {
-        let grant = acquire_at(&mut self.rows, lock, core);
+        let grant = self.rows[lock as usize].acquire(core);
         self.cores[core as usize] = Attendance::after(grant, lock);
         grant
     }
@@ -132,7 +128,7 @@ impl Locks {
         ensures after { locks_of self.new ≡ upd (locks_of self.old) lock (released_to (locks_of self.old lock).queue core) }
         ensures below { IfSome result (λ n. n < 8) }
     {
-        let next = release_at(&mut self.rows, lock, core);
+        let next = self.rows[lock as usize].release(core);
         hand_over(&mut self.cores, core, next, lock);
         next
     }
@@ -141,7 +137,9 @@ impl Locks {
     pub fn forget_releasers(&mut self)
         ensures { locks_of self.new ≡ (λ lock. forgetting (locks_of self.old lock)) }
     {
-        forget_all(&mut self.rows);
+        for row in &mut self.rows {
+            row.forget();
+        }
     }
 }
 
