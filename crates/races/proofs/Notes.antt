@@ -2,6 +2,8 @@
 -- another core as the longer list has it. Assumes nothing.
 use Rattle.std.proofs.Common.{◌≡◌, ℕ, ◌<◌, ◌≤◌, Bool, true, false, cond, not, ◌&&◌, eqb, leb, List, [], ◌∷◌, ◌++◌, length, set, Some, None, Option, sym, refl, ap, ◌∙◌, subst, ⊎_elim, arith}
 use Rattle.std.proofs.lemmas.Bool.{eqb-true, eqb-false, eq-eqb, ne_eqb, and_left, and_right, cases_eq, cases_lt, le-leb, cond-true}
+use Rattle.std.proofs.lemmas.Bool.Decides.{nat_tests}
+use Rattle.std.proofs.lemmas.Grind.{common_steps}
 use Rattle.std.proofs.lemmas.List.{get_or-set_same, get_or-set_other, set_past}
 use Rattle.call.specs.declared.refusal.Access.{Access}
 use Rattle.call.specs.declared.refusal.Access.TheVariants.{Load, Store}
@@ -30,42 +32,10 @@ earliest_push access core word (b ∷ more) a = go (by_another access core word 
 pub noted_other : (p : Pair) (c core : ℕ) → other_than (noted p c) core ≡ or_else (other_than p core) (not (eqb c core)) c
 noted_other p c core = go p.first p.second
   where
-    flipped : (t : Bool) → cond t None (Some c) ≡ cond (not t) (Some c) None
-    flipped true = refl
-    flipped false = refl
-
-    -- the first core again: it is no newcomer
-    again : (a : ℕ) (second : Option ℕ) → a ≡ c → cond (eqb a core) second (Some a) ≡ or_else (cond (eqb a core) second (Some a)) (not (eqb c core)) c
-    again a second e = pick (eqb a core) second (ap (λ (x : ℕ). eqb x core) e)
-      where
-        pick : (t : Bool) (o : Option ℕ) → t ≡ eqb c core → cond t o (Some a) ≡ or_else (cond t o (Some a)) (not (eqb c core)) c
-        pick true None h = ap (λ (b : Bool). cond (not b) (Some c) None) h
-        pick true (Some x) h = refl
-        pick false o h = refl
-
-    -- another core: it is the second if there was none
-    newcomer : (a : ℕ) (second : Option ℕ) → (a ≡ c → ⊥) → other_than (second_by second a c) core ≡ or_else (cond (eqb a core) second (Some a)) (not (eqb c core)) c
-    newcomer a (Some x) n = pick (eqb a core)
-      where
-        pick : (t : Bool) → cond t (Some x) (Some a) ≡ or_else (cond t (Some x) (Some a)) (not (eqb c core)) c
-        pick true = refl
-        pick false = refl
-    newcomer a None n = pick (eqb a core) refl
-      where
-        pick : (t : Bool) → eqb a core ≡ t → cond t (Some c) (Some a) ≡ or_else (cond t None (Some a)) (not (eqb c core)) c
-        pick true h =
-            let same = eqb-true a core h in
-            let apart : eqb c core ≡ false = ne_eqb c core (λ e. n (same ∙ sym e)) in
-            sym (ap (λ (b : Bool). cond (not b) (Some c) None) apart)
-        pick false h = refl
-
     go : (first second : Option ℕ) → other_than (noted_by first second c) core ≡ or_else (other_by first second core) (not (eqb c core)) c
-    go None second = flipped (eqb c core)
-    go (Some a) second = pick (eqb a c) refl
-      where
-        pick : (t : Bool) → eqb a c ≡ t → other_than (cond t (pair (Some a) second) (second_by second a c)) core ≡ or_else (cond (eqb a core) second (Some a)) (not (eqb c core)) c
-        pick true h = again a second (eqb-true a c h)
-        pick false h = newcomer a second (eqb-false a c h)
+    go None second = grind (arith, nat_tests)
+    go (Some a) None = grind (arith, nat_tests)
+    go (Some a) (Some b) = grind (arith, nat_tests)
 
 -- the pair of the access's own word and kind
 pub noted_tells : (p : Pair) (access : Access) (c word core : ℕ) (accesses : List Accessed) → other_than p core ≡ earliest access core word accesses → other_than (noted p c) core ≡ earliest access core word (accesses ++ (record { core = c; word = word; access = access } ∷ []))
@@ -155,18 +125,4 @@ noted_stamp Store s core = refl
 
 -- an entry with this stamp leaves no stamp above it
 pub entered_up_to : (seen : List Seen) (stamp word : ℕ) (s : Seen) → s.stamp ≡ stamp → ((w : ℕ) → up_to seen stamp w ≡ true) → (w : ℕ) → up_to (set seen word s) stamp w ≡ true
-entered_up_to seen stamp word s e older w = ⊎_elim same apart (cases_eq w word)
-  where
-    same : w ≡ word → up_to (set seen word s) stamp w ≡ true
-    same p = ⊎_elim inside past (cases_lt word (length seen))
-      where
-        inside : word < length seen → up_to (set seen word s) stamp w ≡ true
-        inside l =
-            ap (λ (v : ℕ). up_to (set seen word s) stamp v) p
-            ∙ (ap (λ (t : Seen). leb t.stamp stamp) (get_or-set_same seen word s unseen l) ∙ le-leb s.stamp stamp (omega arith))
-
-        past : length seen ≤ word → up_to (set seen word s) stamp w ≡ true
-        past l = ap (λ (t : List Seen). up_to t stamp w) (set_past seen word s l) ∙ older w
-
-    apart : (w ≡ word → ⊥) → up_to (set seen word s) stamp w ≡ true
-    apart n = ap (λ (t : Seen). leb t.stamp stamp) (get_or-set_other seen word w s unseen n) ∙ older w
+entered_up_to seen stamp word s e older w = let o = older w in grind (arith, common_steps, nat_tests)
