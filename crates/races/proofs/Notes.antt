@@ -22,11 +22,7 @@ or_else (Some c) test core = Some c
 -- the earliest in a longer list
 pub earliest_push : (access : Access) (core word : ℕ) (accesses : List Accessed) (a : Accessed) → earliest access core word (accesses ++ (a ∷ [])) ≡ or_else (earliest access core word accesses) (by_another access core word a) a.core
 earliest_push access core word [] a = refl
-earliest_push access core word (b ∷ more) a = go (by_another access core word b) (earliest_push access core word more a)
-  where
-    go : (t : Bool) → earliest access core word (more ++ (a ∷ [])) ≡ or_else (earliest access core word more) (by_another access core word a) a.core → cond t (Some b.core) (earliest access core word (more ++ (a ∷ []))) ≡ or_else (cond t (Some b.core) (earliest access core word more)) (by_another access core word a) a.core
-    go true h = refl
-    go false h = h
+earliest_push access core word (b ∷ more) a = let e = earliest_push access core word more a in grind (arith, nat_tests)
 
 -- a pair that takes a core in names it where it named none before
 pub noted_other : (p : Pair) (c core : ℕ) → other_than (noted p c) core ≡ or_else (other_than p core) (not (eqb c core)) c
@@ -39,25 +35,14 @@ noted_other p c core = go p.first p.second
 
 -- the pair of the access's own word and kind
 pub noted_tells : (p : Pair) (access : Access) (c word core : ℕ) (accesses : List Accessed) → other_than p core ≡ earliest access core word accesses → other_than (noted p c) core ≡ earliest access core word (accesses ++ (record { core = c; word = word; access = access } ∷ []))
-noted_tells p access c word core accesses e =
-    noted_other p c core
-    ∙ (ap (λ (o : Option ℕ). or_else o (not (eqb c core)) c) e
-    ∙ sym (earliest_push access core word accesses (record { core = c; word = word; access = access })
-    ∙ ap (λ (b : Bool). or_else (earliest access core word accesses) b c) (own access)))
-  where
-    own : (k : Access) → by_another k core word (record { core = c; word = word; access = k }) ≡ not (eqb c core)
-    own Load = ap (λ (b : Bool). b && not (eqb c core)) (eq-eqb word word refl)
-    own Store = ap (λ (b : Bool). b && not (eqb c core)) (eq-eqb word word refl)
+noted_tells p Load c word core accesses e =
+    let n = noted_other p c core in let l = earliest_push Load core word accesses (record { core = c; word = word; access = Load }) in grind (arith, nat_tests)
+noted_tells p Store c word core accesses e =
+    let n = noted_other p c core in let l = earliest_push Store core word accesses (record { core = c; word = word; access = Store }) in grind (arith, nat_tests)
 
 -- an access that is no such access leaves the earliest one
 pub other_tells : (access : Access) (core word : ℕ) (accesses : List Accessed) (a : Accessed) → by_another access core word a ≡ false → earliest access core word (accesses ++ (a ∷ [])) ≡ earliest access core word accesses
-other_tells access core word accesses a n =
-    earliest_push access core word accesses a
-    ∙ (ap (λ (b : Bool). or_else (earliest access core word accesses) b a.core) n ∙ go (earliest access core word accesses))
-  where
-    go : (o : Option ℕ) → or_else o false a.core ≡ o
-    go None = refl
-    go (Some c) = refl
+other_tells access core word accesses a n = let l = earliest_push access core word accesses a in grind (arith, nat_tests)
 
 -- ── one more access in the table ──
 
