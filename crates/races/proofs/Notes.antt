@@ -54,35 +54,24 @@ module _ (seen : List Seen) (stamp : ℕ) (access : Access) (core word : ℕ) (a
   pub tells_past : 4096 ≤ word → Tells seen stamp longer
   tells_past past k c w inside =
       told k c w inside
-      ∙ sym (other_tells k c w accesses (record { core = core; word = word; access = access }) (and_right (same_access access k) _ (and_left (eqb word w) _ (ne_eqb word w (λ e. omega arith)))))
+      ∙ sym (other_tells k c w accesses (record { core = core; word = word; access = access }) (let o = ne_eqb word w (λ e. omega arith) in grind (arith, nat_tests)))
 
   -- what the word's memory becomes
+  abbrev before : Seen
+  before = record { stamp = stamp; loads = remembered_in seen stamp Load word; stores = remembered_in seen stamp Store word }
+
   abbrev new : Seen
-  new = noted_in access (record { stamp = stamp; loads = remembered_in seen stamp Load word; stores = remembered_in seen stamp Store word }) core
+  new = noted_in access before core
 
   -- of the word itself, by the kind of the access and the kind asked for
   here : (k : Access) (c : ℕ) → word < 4096 → other_than (current new stamp k) c ≡ earliest k c word longer
-  here k c small = go access k refl
+  here k c small = go access k
     where
-      stamped : (s : Seen) → s.stamp ≡ stamp → (j : Access) → current s stamp j ≡ pair_of s j
-      stamped s e j = cond-true (eqb s.stamp stamp) (pair_of s j) nobody (eq-eqb s.stamp stamp e)
-
-      before : Seen
-      before = record { stamp = stamp; loads = remembered_in seen stamp Load word; stores = remembered_in seen stamp Store word }
-
-      go : (a j : Access) → access ≡ a → other_than (current (noted_in a before core) stamp j) c ≡ earliest j c word (accesses ++ (record { core = core; word = word; access = a } ∷ []))
-      go Load Load e =
-          ap (λ (p : Pair). other_than p c) (stamped (noted_in Load before core) refl Load)
-          ∙ noted_tells (remembered_in seen stamp Load word) Load core word c accesses (told Load c word small)
-      go Load Store e =
-          ap (λ (p : Pair). other_than p c) (stamped (noted_in Load before core) refl Store)
-          ∙ (told Store c word small ∙ sym (other_tells Store c word accesses (record { core = core; word = word; access = Load }) refl))
-      go Store Load e =
-          ap (λ (p : Pair). other_than p c) (stamped (noted_in Store before core) refl Load)
-          ∙ (told Load c word small ∙ sym (other_tells Load c word accesses (record { core = core; word = word; access = Store }) refl))
-      go Store Store e =
-          ap (λ (p : Pair). other_than p c) (stamped (noted_in Store before core) refl Store)
-          ∙ noted_tells (remembered_in seen stamp Store word) Store core word c accesses (told Store c word small)
+      go : (a j : Access) → other_than (current (noted_in a before core) stamp j) c ≡ earliest j c word (accesses ++ (record { core = core; word = word; access = a } ∷ []))
+      go Load Load = let t = told Load c word small in let n = noted_tells (remembered_in seen stamp Load word) Load core word c accesses t in grind (arith, nat_tests)
+      go Load Store = let t = told Store c word small in let n = other_tells Store c word accesses (record { core = core; word = word; access = Load }) refl in grind (arith, nat_tests)
+      go Store Load = let t = told Load c word small in let n = other_tells Load c word accesses (record { core = core; word = word; access = Store }) refl in grind (arith, nat_tests)
+      go Store Store = let t = told Store c word small in let n = noted_tells (remembered_in seen stamp Store word) Store core word c accesses t in grind (arith, nat_tests)
 
   pub tells_noted : word < length seen → Tells (set seen word new) stamp longer
   tells_noted inside k c w small = ⊎_elim same apart (cases_eq w word)
