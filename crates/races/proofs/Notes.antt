@@ -1,16 +1,16 @@
 -- One more access: the pair of its word and kind takes the core in, every other pair stays, and both tell the earliest access by
 -- another core as the longer list has it. Assumes nothing.
-use Rattle.std.proofs.Common.{◌≡◌, ℕ, ◌<◌, ◌≤◌, Bool, true, false, cond, not, ◌&&◌, eqb, leb, List, [], ◌∷◌, ◌++◌, length, set, Some, None, Option, sym, refl, ap, ◌∙◌, subst, ⊎_elim, arith}
-use Rattle.std.proofs.lemmas.Bool.{eqb-true, eqb-false, eq-eqb, ne_eqb, and_left, and_right, cases_eq, cases_lt, le-leb, cond-true}
+use Rattle.std.proofs.Common.{◌≡◌, ℕ, ◌<◌, ◌≤◌, Bool, true, false, cond, not, eqb, List, [], ◌∷◌, ◌++◌, length, set, Some, None, Option, sym, refl, ◌∙◌, subst, ⊎_elim, arith}
+use Rattle.std.proofs.lemmas.Bool.{ne_eqb, cases_eq}
 use Rattle.std.proofs.lemmas.Bool.Decides.{nat_tests}
 use Rattle.std.proofs.lemmas.Grind.{common_steps}
-use Rattle.std.proofs.lemmas.List.{get_or-set_same, get_or-set_other, set_past}
+use Rattle.std.proofs.lemmas.List.{get_or-set_same, get_or-set_other}
 use Rattle.call.specs.declared.refusal.Access.{Access}
 use Rattle.call.specs.declared.refusal.Access.TheVariants.{Load, Store}
-use Rattle.rules.specs.Refusals.{same_access, by_another, earliest}
+use Rattle.rules.specs.Refusals.{by_another, earliest}
 use Rattle.rules.specs.State.{Accessed}
-use Rattle.races.specs.Pairs.{nobody, pair, noted, other_than, noted_by, other_by, second_by}
-use Rattle.races.specs.Remembered.{pair_of, remembered_in, noted_in, Tells, current}
+use Rattle.races.specs.Pairs.{noted, other_than, noted_by, other_by}
+use Rattle.races.specs.Remembered.{remembered_in, noted_in, Tells, current}
 use Rattle.races.specs.Stamps.{unseen, up_to}
 use Rattle.races.specs.declared.pair.Pair.{Pair}
 use Rattle.races.specs.declared.seen.Seen.{Seen}
@@ -50,11 +50,14 @@ module _ (seen : List Seen) (stamp : ℕ) (access : Access) (core word : ℕ) (a
   abbrev longer : List Accessed
   longer = accesses ++ (record { core = core; word = word; access = access } ∷ [])
 
+  -- the earliest access to another word stays
+  elsewhere : (k : Access) (c w : ℕ) → (word ≡ w → ⊥) → earliest k c w longer ≡ earliest k c w accesses
+  elsewhere k c w n =
+      let apart = ne_eqb word w n in other_tells k c w accesses (record { core = core; word = word; access = access }) (grind (arith, nat_tests))
+
   -- a word past the table is not remembered, and no word of the table is it
   pub tells_past : 4096 ≤ word → Tells seen stamp longer
-  tells_past past k c w inside =
-      told k c w inside
-      ∙ sym (other_tells k c w accesses (record { core = core; word = word; access = access }) (let o = ne_eqb word w (λ e. omega arith) in grind (arith, nat_tests)))
+  tells_past past k c w inside = told k c w inside ∙ sym (elsewhere k c w (λ e. omega arith))
 
   -- what the word's memory becomes
   abbrev before : Seen
@@ -77,16 +80,10 @@ module _ (seen : List Seen) (stamp : ℕ) (access : Access) (core word : ℕ) (a
   tells_noted inside k c w small = ⊎_elim same apart (cases_eq w word)
     where
       same : w ≡ word → other_than (remembered_in (set seen word new) stamp k w) c ≡ earliest k c w longer
-      same e =
-          ap (λ (v : ℕ). other_than (remembered_in (set seen word new) stamp k v) c) e
-          ∙ (ap (λ (s : Seen). other_than (current s stamp k) c) (get_or-set_same seen word new unseen inside)
-          ∙ (here k c (subst (λ (v : ℕ). v < 4096) e small) ∙ ap (λ (v : ℕ). earliest k c v longer) (sym e)))
+      same e = rw (e, get_or-set_same seen word new unseen inside) (here k c (omega arith))
 
       apart : (w ≡ word → ⊥) → other_than (remembered_in (set seen word new) stamp k w) c ≡ earliest k c w longer
-      apart n =
-          ap (λ (s : Seen). other_than (current s stamp k) c) (get_or-set_other seen word w new unseen n)
-          ∙ (told k c w small
-          ∙ sym (other_tells k c w accesses (record { core = core; word = word; access = access }) (and_right (same_access access k) _ (and_left (eqb word w) _ (ne_eqb word w (λ e. n (sym e)))))))
+      apart n = rw (get_or-set_other seen word w new unseen n) (told k c w small ∙ sym (elsewhere k c w (λ e. n (sym e))))
 
   -- the same of an entry that is that memory
   pub tells_entered : (s : Seen) → s ≡ new → word < length seen → Tells (set seen word s) stamp longer
