@@ -1,11 +1,11 @@
 //! What is done to the locks, and what can be asked of them.
-ghost use Rattle.std.specs.Prelude.{◌≡◌, ℕ, ◌<◌, true, false, map, length, replicate, IfSome, IfOk};
-ghost use Rattle.call.specs.declared.refusal.Refusal.TheVariants as refusals;
+ghost use Rattle.std.specs.Prelude.{◌≡◌, ◌<◌, false, [], IfSome, IfOk, OnOk};
 ghost use Rattle.rules.specs.Refusals.{waits, holds, holds_some, some_held};
 ghost use Rattle.rules.specs.State.{free};
 ghost use Rattle.rules.specs.Steps.{acquired_by, released_to, forgetting};
-ghost use Rattle.rules.specs.Tables.{upd};
+ghost use Rattle.rules.specs.Tables.{first, upd};
 ghost use Rattle.locks.specs.Acquire.{acquire_answer, acquire_after};
+ghost use Rattle.locks.specs.Refused.{common_rows, answered};
 ghost use Rattle.locks.specs.Release.{release_answer, release_after};
 ghost use Rattle.locks.specs.Rows.{granted, passed_to};
 ghost use Rattle.locks.specs.Views.{locks_of, does};
@@ -67,11 +67,10 @@ impl Locks {
         self.does(core).is_holding()
     }
 
-    /// Gives a free lock to the core, with its last releaser, or queues the core for a held lock. A core that holds a lock
-    /// or waits for one is refused.
-    pub fn acquire(&mut self, core: u8, lock: u8) -> Result<Grant, Refusal>
-        ensures answer { result ≡ acquire_answer (locks_of self.old) core lock }
-        ensures after { locks_of self.new ≡ acquire_after (locks_of self.old) core lock }
+    // What acquire and release ask first: there are such a core and such a lock, and the core does not wait.
+    fn check(&self, core: u8, lock: u8) -> Result<(), Refusal>
+        ensures answer { result ≡ answered (first (common_rows (locks_of self.now) core lock [])) tt }
+        ensures passed { OnOk result ((core < 8) × (lock < 8) × (waits (locks_of self.now) core ≡ false)) }
     {
         if core >= 8 {
             return Err(Refusal::NoCore);
@@ -82,6 +81,16 @@ impl Locks {
         if lock >= 8 {
             return Err(Refusal::NoLock);
         }
+        Ok(())
+    }
+
+    /// Gives a free lock to the core, with its last releaser, or queues the core for a held lock. A core that holds a lock
+    /// or waits for one is refused.
+    pub fn acquire(&mut self, core: u8, lock: u8) -> Result<Grant, Refusal>
+        ensures answer { result ≡ acquire_answer (locks_of self.old) core lock }
+        ensures after { locks_of self.new ≡ acquire_after (locks_of self.old) core lock }
+    {
+        self.check(core, lock)?;
         if self.holds_some(core) {
             return Err(Refusal::HoldsLock);
         }
@@ -106,15 +115,7 @@ impl Locks {
         ensures after { locks_of self.new ≡ release_after (locks_of self.old) core lock }
         ensures below { IfOk result (λ next. IfSome next (λ n. n < 8)) }
     {
-        if core >= 8 {
-            return Err(Refusal::NoCore);
-        }
-        if self.waits(core) {
-            return Err(Refusal::Waiting);
-        }
-        if lock >= 8 {
-            return Err(Refusal::NoLock);
-        }
+        self.check(core, lock)?;
         if !self.holds(core, lock) {
             return Err(Refusal::NotHeld);
         }
