@@ -1,6 +1,6 @@
 -- What acquire and release make of the table of locks and the table of cores keeps the two tied. A release is two changes
 -- at its lock: the core puts the lock down, and the first in the queue, if there is one, takes it up. Assumes nothing.
-use Rattle.std.proofs.Common.{◌≡◌, ℕ, ◌<◌, true, ◌⊎◌, List, [], ◌∷◌, map, length, get_or, set, IfSome, Some, None, Option, sym, refl, ap, ◌∙◌, inl, inr, ⊎_elim, arith}
+use Rattle.std.proofs.Common.{◌≡◌, ℕ, ◌<◌, true, ◌⊎◌, List, [], ◌∷◌, map, length, get_or, set, IfSome, Some, None, Option, sym, refl, ap, ◌∙◌, subst, inl, inr, ⊎_elim, arith}
 use Rattle.std.proofs.lemmas.List.{length-set}
 use Rattle.std.proofs.lemmas.Bool.{cases_lt, eqb-true, false≢true}
 use Rattle.rules.specs.Refusals.{holds}
@@ -57,15 +57,14 @@ module _ (s : Locks) (core lock : ℕ) (below : core < 8) (within : lock < 8) wh
       go (Waits wanted) t = absurd (false≢true t)
 
   -- the first in a queue is one of the eight cores
-  pub next_below : IfSome (passed_to (locks_of s lock).queue) (λ n. n < length s.cores)
-  next_below = go (locks_of s lock).queue refl
+  pub next_below : (next : Option ℕ) → next ≡ passed_to (locks_of s lock).queue → (k : ℕ) → k ≡ 8 → IfSome next (λ n. n < k)
+  next_below next e k eight = subst (λ (o : Option ℕ). IfSome o (λ n. n < k)) (sym e) (go (locks_of s lock).queue refl)
     where
-      go : (q : List ℕ) → (locks_of s lock).queue ≡ q → IfSome (passed_to q) (λ n. n < length s.cores)
+      go : (q : List ℕ) → (locks_of s lock).queue ≡ q → IfSome (passed_to q) (λ n. n < k)
       go [] e = tt
-      go (next ∷ more) e =
-          let w = first_waits (locks_of s) (does s) lock next more None s.queued s.held e in
-          let n = s.eight_cores in
-          ⊎_elim (λ l. omega arith) (λ l. let a = does_past s next l in let z : ◌≡◌ {A = ℕ} 0 1 = cc in let no_way : ⊥ = omega arith in absurd no_way) (cases_lt next 8)
+      go (first ∷ more) e =
+          let w = first_waits (locks_of s) (does s) lock first more None s.queued s.held e in
+          ⊎_elim (λ l. omega arith) (λ l. let a = does_past s first l in let z : ◌≡◌ {A = ℕ} 0 1 = cc in let no_way : ⊥ = omega arith in absurd no_way) (cases_lt first 8)
 
   -- a release, by the queue
   module _ (had : does s core ≡ Holds lock) where
@@ -102,11 +101,11 @@ module _ (s : Locks) (core lock : ℕ) (below : core < 8) (within : lock < 8) wh
     module _ (row : Lock) (e : row ≡ released_to (locks_of s lock).queue core) (cores : List Attendance) (d : cores ≡ handed s.cores core (passed_to (locks_of s lock).queue) lock) where
       pub release_queues : QueuesTied (table free (set s.rows lock row)) (table Away cores)
       release_queues =
-          tied_same queue_count wait_count _ _ _ _ (one_changed row _ e) (ap (table Away) d) (by_queue (locks_of s lock).queue refl next_below).0
+          tied_same queue_count wait_count _ _ _ _ (one_changed row _ e) (ap (table Away) d) (by_queue (locks_of s lock).queue refl (next_below _ refl (length s.cores) s.eight_cores)).0
 
       pub release_holders : HoldersTied (table free (set s.rows lock row)) (table Away cores)
       release_holders =
-          tied_same is_holder holder_of _ _ _ _ (one_changed row _ e) (ap (table Away) d) (by_queue (locks_of s lock).queue refl next_below).1
+          tied_same is_holder holder_of _ _ _ _ (one_changed row _ e) (ap (table Away) d) (by_queue (locks_of s lock).queue refl (next_below _ refl (length s.cores) s.eight_cores)).1
 
 pub length_handed : (cores : List Attendance) (core : ℕ) (next : Option ℕ) (lock : ℕ) → length (handed cores core next lock) ≡ length cores
 length_handed cores core None lock = length-set cores core Away

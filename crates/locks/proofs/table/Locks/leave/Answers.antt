@@ -1,4 +1,4 @@
-use Rattle.std.proofs.Common.{ℕ, ◌<◌, length, IfSome, Option, sym, ap, ◌∙◌, subst, arith}
+use Rattle.std.proofs.Common.{ℕ, length, Option, refl, ap, ◌∙◌, arith}
 use Rattle.std.proofs.lemmas.List.{length-set, get_or_default}
 use Rattle.rules.specs.State.{Lock, free}
 use Rattle.rules.specs.Steps.{released_to}
@@ -9,11 +9,9 @@ use Rattle.locks.proofs.table.Locks.leave.Goals as goal
 
 pub hand_over-requires : goal.hand_over-requires
 hand_over-requires c =
-    let here = get_or_default c.args.self.now.rows c.args.lock c.index-self-lock.result free (omega arith) in (
-      omega arith,
-      subst (λ (o : Option ℕ). IfSome o (λ n. n < length c.args.self.now.cores)) (sym (c.release-next.ensures.answer ∙ ap (λ (l : Lock). passed_to l.queue) here))
-          (next_below c.args.self.now c.args.core c.args.lock c.requires.0 c.requires.1.0),
-    )
+    let s = c.args.self.now in
+    let here = get_or_default s.rows c.args.lock c.index-self-lock.result free (omega arith) in
+    (omega arith, next_below s c.args.core c.args.lock c.requires.0 c.requires.1.0 _ (c.release-next.ensures.answer ∙ ap (λ (l : Lock). passed_to l.queue) here) (length s.cores) s.eight_cores)
 
 pub invariant_of-self : goal.invariant_of-self
 invariant_of-self c =
@@ -36,6 +34,4 @@ returns-clause-after c =
 pub returns-clause-below : goal.returns-clause-below
 returns-clause-below c =
     let here = get_or_default c.args.self.now.rows c.args.lock c.index-self-lock.result free (omega arith) in
-    subst (λ (k : ℕ). IfSome c.release-next.result (λ n. n < k)) c.args.self.now.eight_cores
-    (subst (λ (o : Option ℕ). IfSome o (λ n. n < length c.args.self.now.cores)) (sym (c.release-next.ensures.answer ∙ ap (λ (l : Lock). passed_to l.queue) here))
-    (next_below c.args.self.now c.args.core c.args.lock c.requires.0 c.requires.1.0))
+    next_below c.args.self.now c.args.core c.args.lock c.requires.0 c.requires.1.0 _ (c.release-next.ensures.answer ∙ ap (λ (l : Lock). passed_to l.queue) here) 8 refl
