@@ -40,6 +40,7 @@ impl Locks {
     }
 
     /// Whether the core waits for a lock.
+    #[tactic(auto, using(crate::proofs::Kept::waits_of))]
     pub fn waits(&self, core: u8) -> bool
         ensures { result ≡ waits (locks_of self.now) core }
     {
@@ -61,6 +62,7 @@ impl Locks {
     }
 
     // Whether the core holds some lock.
+    #[tactic(auto, using(crate::proofs::Kept::holds_of))]
     fn holds_some(&self, core: u8) -> bool
         ensures { result ≡ holds_some (locks_of self.now) core }
     {
