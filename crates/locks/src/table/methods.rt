@@ -88,6 +88,7 @@ impl Locks {
 
     /// Gives a free lock to the core, with its last releaser, or queues the core for a held lock. A core that holds a lock
     /// or waits for one is refused.
+    #[tactic(auto, using(crate::proofs::Kept::neither))]
     pub fn acquire(&mut self, core: u8, lock: u8) -> Result<Grant, Refusal>
         ensures answer { result ≡ acquire_answer (locks_of self.old) core lock }
         ensures after { locks_of self.new ≡ acquire_after (locks_of self.old) core lock }

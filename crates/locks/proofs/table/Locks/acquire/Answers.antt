@@ -9,7 +9,6 @@ use Rattle.rules.specs.Tables.{first, when, upd}
 use Rattle.locks.specs.Refused.{common_rows, answered, left}
 use Rattle.locks.specs.Rows.{granted}
 use Rattle.locks.specs.Views.{locks_of}
-use Rattle.locks.proofs.Kept.{neither}
 use Rattle.locks.proofs.table.Locks.acquire.Goals as goal
 
 -- a refusal by the rows that both calls begin with comes before the call's own
@@ -36,8 +35,3 @@ returns-in_err-check-clause-after c =
     let locks = locks_of c.args.self.now in
     let rows = refused_first locks c.args.core c.args.lock (when (holds_some locks c.args.core) HoldsLock ∷ []) _ (sym c.in_err-check.was ∙ c.check.ensures.answer) in
     ap (λ (o : Option Refusal). left o locks (upd locks c.args.lock (acquired_by (locks c.args.lock).holder (locks c.args.lock) c.args.core))) (sym rows)
-
-pub enter-requires : goal.enter-requires
-enter-requires c =
-    let passed = c.in_ok-check.ensures.passed in
-    (passed.0, (passed.1, neither c.args.self.now c.args.core passed.2 (sym c.holds_some.ensures ∙ c.if-holds_some.false)))
