@@ -48,6 +48,7 @@ impl Seen {
         }
         self
     }
+
     /// The earliest core other than this one that made an access of this kind.
     pub(crate) fn other_than(&self, access: Access, core: u8) -> Option<u8>
         ensures { result ≡ other_than (pair_of self.now access) core }
