@@ -1,48 +1,21 @@
 -- What acquire and release make of the table of locks and the table of cores keeps the two tied. A release is two changes
 -- at its lock: the core puts the lock down, and the first in the queue, if there is one, takes it up. Assumes nothing.
-use Rattle.std.proofs.Common.{◌≡◌, ℕ, ◌<◌, true, ◌⊎◌, List, [], ◌∷◌, map, length, get_or, set, IfSome, Some, None, Option, sym, refl, ap, ◌∙◌, inl, inr, ⊎_elim, arith}
+use Rattle.std.proofs.Common.{◌≡◌, ℕ, ◌<◌, true, List, [], ◌∷◌, length, set, IfSome, Some, None, Option, sym, refl, ap, ◌∙◌, subst, ⊎_elim, arith}
 use Rattle.std.proofs.lemmas.List.{length-set}
 use Rattle.std.proofs.lemmas.Bool.{cases_lt, eqb-true, false≢true}
-use Rattle.rules.proofs.Tables.{upd_cases}
 use Rattle.rules.specs.Refusals.{holds}
-use Rattle.rules.specs.State.{Lock}
+use Rattle.rules.specs.State.{Lock, free}
 use Rattle.rules.specs.Steps.{acquired_by, released_to}
 use Rattle.rules.specs.Tables.{upd}
-use Rattle.locks.specs.Rows.{lock_of, granted, passed_to}
+use Rattle.locks.specs.Rows.{granted, passed_to}
 use Rattle.locks.specs.Ties.{holder_of, attending, handed}
 use Rattle.locks.specs.Views.{locks_of, does}
 use Rattle.locks.specs.declared.attendance.Attendance.{Attendance}
 use Rattle.locks.specs.declared.attendance.Attendance.TheVariants.{Away, Holds, Waits}
-use Rattle.locks.specs.declared.row.Row.{Row}
 use Rattle.locks.specs.declared.table.Locks.{Locks}
 use Rattle.locks.proofs.Kept.{does_past}
-use Rattle.locks.proofs.Tables.{kept, kept_upd, set_upd}
+use Rattle.locks.proofs.Tables.{table, table_set, upd_same, upd_twice}
 use Rattle.locks.proofs.Ties.{Tied, queue_count, wait_count, is_holder, QueuesTied, HoldersTied, entered_queues, entered_holders, put_down, freed_queues, freed_holders, first_waits, passed, passed_queues, passed_holders}
-
--- cores kept in a list
-abbrev pub doing : List Attendance → ℕ → Attendance
-doing cores core = get_or cores core Away
-
-pub set_doing : (cores : List Attendance) (core : ℕ) (now : Attendance) → core < length cores → doing (set cores core now) ≡ upd (doing cores) core now
-set_doing cores core now l = λ i c. set_upd cores core now Away l c i
-
-upd_same : {X : Type 0} (f : ℕ → X) (k : ℕ) (x : X) → upd f k x k ≡ x
-upd_same f k x = ⊎_elim (λ s. s.1) (λ o. absurd (o.0 refl)) (upd_cases f k x k)
-
-upd_twice : {X : Type 0} (f : ℕ → X) (k : ℕ) (x y : X) → upd (upd f k x) k y ≡ upd f k y
-upd_twice f k x y = λ i j. at j i
-  where
-    at : (j : ℕ) → upd (upd f k x) k y j ≡ upd f k y j
-    at j = go (upd_cases (upd f k x) k y j) (upd_cases f k x j) (upd_cases f k y j)
-      where
-        go : ((j ≡ k) × (upd (upd f k x) k y j ≡ y)) ⊎ ((j ≡ k → ⊥) × (upd (upd f k x) k y j ≡ upd f k x j)) →
-            ((j ≡ k) × (upd f k x j ≡ x)) ⊎ ((j ≡ k → ⊥) × (upd f k x j ≡ f j)) →
-            ((j ≡ k) × (upd f k y j ≡ y)) ⊎ ((j ≡ k → ⊥) × (upd f k y j ≡ f j)) → upd (upd f k x) k y j ≡ upd f k y j
-        go (inl a) b (inl c) = a.1 ∙ sym c.1
-        go (inl a) b (inr c) = absurd (c.0 a.0)
-        go (inr a) (inl b) c = absurd (a.0 b.0)
-        go (inr a) (inr b) (inl c) = absurd (a.0 c.0)
-        go (inr a) (inr b) (inr c) = a.1 ∙ b.1 ∙ sym c.1
 
 -- facts that tie tables tie equal tables
 tied_same : {X : Type 0} (f : ℕ → Lock → X) (g : Attendance → ℕ → X) (locks after : ℕ → Lock) (cores now : ℕ → Attendance) → after ≡ locks → now ≡ cores → Tied f g locks cores → Tied f g after now
@@ -55,16 +28,23 @@ module _ (s : Locks) (core lock : ℕ) (below : core < 8) (within : lock < 8) wh
   in_cores : core < length s.cores
   in_cores = let n = s.eight_cores in omega arith
 
+  -- one lock changed
+  pub one_changed : (row new : Lock) → row ≡ new → table free (set s.rows lock row) ≡ upd (locks_of s) lock new
+  one_changed row new e = table_set free s.rows lock row in_rows ∙ ap (upd (locks_of s) lock) e
+
   -- an acquire
-  module _ (after : List Row) (e : map lock_of after ≡ set (map lock_of s.rows) lock (acquired_by (locks_of s lock).holder (locks_of s lock) core)) (away : does s core ≡ Away) (cores : List Attendance) (d : cores ≡ set s.cores core (attending (granted (locks_of s lock).holder (locks_of s lock)) lock)) where
-    pub acquire_queues : QueuesTied (kept after) (doing cores)
+  module _ (row : Lock) (e : row ≡ acquired_by (locks_of s lock).holder (locks_of s lock) core) (away : does s core ≡ Away) (now : Attendance) (d : now ≡ attending (granted (locks_of s lock).holder (locks_of s lock)) lock) where
+    cores_changed : table Away (set s.cores core now) ≡ upd (does s) core (attending (granted (locks_of s lock).holder (locks_of s lock)) lock)
+    cores_changed = table_set Away s.cores core now in_cores ∙ ap (upd (does s) core) d
+
+    pub acquire_queues : QueuesTied (table free (set s.rows lock row)) (table Away (set s.cores core now))
     acquire_queues =
-        tied_same queue_count wait_count _ _ _ _ (kept_upd s.rows after lock _ in_rows e) (ap doing d ∙ set_doing s.cores core _ in_cores)
+        tied_same queue_count wait_count _ _ _ _ (one_changed row _ e) cores_changed
         (entered_queues (locks_of s) (does s) core lock s.queued s.held away (locks_of s lock).holder)
 
-    pub acquire_holders : HoldersTied (kept after) (doing cores)
+    pub acquire_holders : HoldersTied (table free (set s.rows lock row)) (table Away (set s.cores core now))
     acquire_holders =
-        tied_same is_holder holder_of _ _ _ _ (kept_upd s.rows after lock _ in_rows e) (ap doing d ∙ set_doing s.cores core _ in_cores)
+        tied_same is_holder holder_of _ _ _ _ (one_changed row _ e) cores_changed
         (entered_holders (locks_of s) (does s) core lock s.queued s.held away (locks_of s lock).holder refl)
 
   -- who holds a lock is known to hold it
@@ -77,15 +57,14 @@ module _ (s : Locks) (core lock : ℕ) (below : core < 8) (within : lock < 8) wh
       go (Waits wanted) t = absurd (false≢true t)
 
   -- the first in a queue is one of the eight cores
-  pub next_below : IfSome (passed_to (locks_of s lock).queue) (λ n. n < length s.cores)
-  next_below = go (locks_of s lock).queue refl
+  pub next_below : (next : Option ℕ) → next ≡ passed_to (locks_of s lock).queue → (k : ℕ) → k ≡ 8 → IfSome next (λ n. n < k)
+  next_below next e k eight = subst (λ (o : Option ℕ). IfSome o (λ n. n < k)) (sym e) (go (locks_of s lock).queue refl)
     where
-      go : (q : List ℕ) → (locks_of s lock).queue ≡ q → IfSome (passed_to q) (λ n. n < length s.cores)
+      go : (q : List ℕ) → (locks_of s lock).queue ≡ q → IfSome (passed_to q) (λ n. n < k)
       go [] e = tt
-      go (next ∷ more) e =
-          let w = first_waits (locks_of s) (does s) lock next more None s.queued s.held e in
-          let n = s.eight_cores in
-          ⊎_elim (λ l. omega arith) (λ l. let a = does_past s next l in let z : ◌≡◌ {A = ℕ} 0 1 = cc in let no_way : ⊥ = omega arith in absurd no_way) (cases_lt next 8)
+      go (first ∷ more) e =
+          let w = first_waits (locks_of s) (does s) lock first more None s.queued s.held e in
+          ⊎_elim (λ l. omega arith) (λ l. let a = does_past s first l in let z : ◌≡◌ {A = ℕ} 0 1 = cc in let no_way : ⊥ = omega arith in absurd no_way) (cases_lt first 8)
 
   -- a release, by the queue
   module _ (had : does s core ≡ Holds lock) where
@@ -100,13 +79,13 @@ module _ (s : Locks) (core lock : ℕ) (below : core < 8) (within : lock < 8) wh
 
     abbrev LeftTied : List ℕ → Type 0
     LeftTied q =
-        QueuesTied (upd (locks_of s) lock (released_to q core)) (doing (handed s.cores core (passed_to q) lock))
-        × HoldersTied (upd (locks_of s) lock (released_to q core)) (doing (handed s.cores core (passed_to q) lock))
+        QueuesTied (upd (locks_of s) lock (released_to q core)) (table Away (handed s.cores core (passed_to q) lock))
+        × HoldersTied (upd (locks_of s) lock (released_to q core)) (table Away (handed s.cores core (passed_to q) lock))
 
     by_queue : (q : List ℕ) → (locks_of s lock).queue ≡ q → IfSome (passed_to q) (λ n. n < length s.cores) → LeftTied q
     by_queue [] e n =
         let same = ap (λ (q : List ℕ). upd (locks_of s) lock (record { holder = None; queue = q; last = Some core })) (sym e) in
-        let cores = set_doing s.cores core Away in_cores in
+        let cores = table_set Away s.cores core Away in_cores in
         (tied_same queue_count wait_count _ _ _ _ same cores down_queues, tied_same is_holder holder_of _ _ _ _ same cores down_holders)
     by_queue (next ∷ more) e n =
         let locks = upd (locks_of s) lock down in
@@ -114,19 +93,19 @@ module _ (s : Locks) (core lock : ℕ) (below : core < 8) (within : lock < 8) wh
         let here = upd_same (locks_of s) lock down in
         let queue = ap (λ (l : Lock). l.queue) here ∙ e in
         let same = sym (upd_twice (locks_of s) lock down (passed locks does lock next more (Some core) down_queues down_holders)) in
-        let cores = set_doing (set s.cores core Away) next (Holds lock) (rw length-set n) ∙ ap (λ (h : ℕ → Attendance). upd h next (Holds lock)) (set_doing s.cores core Away in_cores) in (
+        let cores = table_set Away (set s.cores core Away) next (Holds lock) (rw length-set n) ∙ ap (λ (h : ℕ → Attendance). upd h next (Holds lock)) (table_set Away s.cores core Away in_cores) in (
           tied_same queue_count wait_count _ _ _ _ same cores (passed_queues locks does lock next more (Some core) down_queues down_holders queue),
           tied_same is_holder holder_of _ _ _ _ same cores (passed_holders locks does lock next more (Some core) down_queues down_holders queue (ap (λ (l : Lock). l.holder) here)),
         )
 
-    module _ (after : List Row) (e : map lock_of after ≡ set (map lock_of s.rows) lock (released_to (locks_of s lock).queue core)) (cores : List Attendance) (d : cores ≡ handed s.cores core (passed_to (locks_of s lock).queue) lock) where
-      pub release_queues : QueuesTied (kept after) (doing cores)
+    module _ (row : Lock) (e : row ≡ released_to (locks_of s lock).queue core) (cores : List Attendance) (d : cores ≡ handed s.cores core (passed_to (locks_of s lock).queue) lock) where
+      pub release_queues : QueuesTied (table free (set s.rows lock row)) (table Away cores)
       release_queues =
-          tied_same queue_count wait_count _ _ _ _ (kept_upd s.rows after lock _ in_rows e) (ap doing d) (by_queue (locks_of s lock).queue refl next_below).0
+          tied_same queue_count wait_count _ _ _ _ (one_changed row _ e) (ap (table Away) d) (by_queue (locks_of s lock).queue refl (next_below _ refl (length s.cores) s.eight_cores)).0
 
-      pub release_holders : HoldersTied (kept after) (doing cores)
+      pub release_holders : HoldersTied (table free (set s.rows lock row)) (table Away cores)
       release_holders =
-          tied_same is_holder holder_of _ _ _ _ (kept_upd s.rows after lock _ in_rows e) (ap doing d) (by_queue (locks_of s lock).queue refl next_below).1
+          tied_same is_holder holder_of _ _ _ _ (one_changed row _ e) (ap (table Away) d) (by_queue (locks_of s lock).queue refl (next_below _ refl (length s.cores) s.eight_cores)).1
 
 pub length_handed : (cores : List Attendance) (core : ℕ) (next : Option ℕ) (lock : ℕ) → length (handed cores core next lock) ≡ length cores
 length_handed cores core None lock = length-set cores core Away

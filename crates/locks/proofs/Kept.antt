@@ -9,13 +9,12 @@ use Rattle.locks.specs.Views.{locks_of, does}
 use Rattle.locks.specs.declared.attendance.Attendance.{Attendance}
 use Rattle.locks.specs.declared.attendance.Attendance.TheVariants.{Away, Holds, Waits}
 use Rattle.locks.specs.declared.table.Locks.{Locks}
-use Rattle.locks.proofs.Tables.{kept_past}
 use Rattle.locks.proofs.Ties.{room_for}
 use Rattle.locks.proofs.Questions.{waits_told, holds_told}
 
 module _ (s : Locks) where
   pub past_seven : (l : ℕ) → 8 ≤ l → locks_of s l ≡ free
-  past_seven l h = let n = s.eight_locks in kept_past s.rows l (omega arith)
+  past_seven l h = let n = s.eight_locks in get_or_past s.rows l free (omega arith)
 
   pub waits_of : (core : ℕ) → waits (locks_of s) core ≡ waiting (does s core)
   waits_of core = waits_told (locks_of s) (does s) core past_seven s.queued s.held

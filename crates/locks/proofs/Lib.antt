@@ -1,9 +1,7 @@
 -- Lemmas about queues, about the tie between locks and cores, and about the questions of the rules.
-mod Queues
 mod Counts
 mod Ties
 pub mod Tables
 mod Questions
 mod Kept
 mod Changes
-mod Forgetting

@@ -1,24 +1,19 @@
 -- Acquire: why it is refused, what it answers and what it leaves. Assumes nothing.
-use Rattle.std.specs.Prelude.{ℕ, List, [], ◌∷◌, Option, Result, nat_le}
+use Rattle.std.specs.Prelude.{ℕ, List, [], ◌∷◌, Option, Result}
 use Rattle.call.specs.declared.refusal.Refusal.{Refusal}
-use Rattle.call.specs.declared.refusal.Refusal.TheVariants.{NoCore, Waiting, NoLock, HoldsLock}
-use Rattle.rules.specs.Refusals.{waits, holds_some}
+use Rattle.call.specs.declared.refusal.Refusal.TheVariants.{HoldsLock}
+use Rattle.rules.specs.Refusals.{holds_some}
 use Rattle.rules.specs.State.{Lock}
 use Rattle.rules.specs.Steps.{acquired_by}
 use Rattle.rules.specs.Tables.{first, when, upd}
-use Rattle.locks.specs.Refused.{answered, left}
+use Rattle.locks.specs.Refused.{common_rows, answered, left}
 use Rattle.locks.specs.Rows.{granted}
 use Rattle.locks.specs.declared.grant.Grant.{Grant}
 
 module _ (locks : ℕ → Lock) (core lock : ℕ) where
   -- the rows of acquire, in order
   abbrev pub acquire_rows : List (Option Refusal)
-  acquire_rows =
-      when (nat_le 8 core) NoCore
-      ∷ when (waits locks core) Waiting
-      ∷ when (nat_le 8 lock) NoLock
-      ∷ when (holds_some locks core) HoldsLock
-      ∷ []
+  acquire_rows = common_rows locks core lock (when (holds_some locks core) HoldsLock ∷ [])
 
   abbrev pub acquire_answer : Result Grant Refusal
   acquire_answer = answered (first acquire_rows) (granted (locks lock).holder (locks lock))

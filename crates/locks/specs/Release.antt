@@ -1,23 +1,18 @@
 -- Release: why it is refused, what it answers and what it leaves. Assumes nothing.
-use Rattle.std.specs.Prelude.{ℕ, not, List, [], ◌∷◌, Option, Result, nat_le}
+use Rattle.std.specs.Prelude.{ℕ, not, List, [], ◌∷◌, Option, Result}
 use Rattle.call.specs.declared.refusal.Refusal.{Refusal}
-use Rattle.call.specs.declared.refusal.Refusal.TheVariants.{NoCore, Waiting, NoLock, NotHeld}
-use Rattle.rules.specs.Refusals.{waits, holds}
+use Rattle.call.specs.declared.refusal.Refusal.TheVariants.{NotHeld}
+use Rattle.rules.specs.Refusals.{holds}
 use Rattle.rules.specs.State.{Lock}
 use Rattle.rules.specs.Steps.{released_to}
 use Rattle.rules.specs.Tables.{first, when, upd}
-use Rattle.locks.specs.Refused.{answered, left}
+use Rattle.locks.specs.Refused.{common_rows, answered, left}
 use Rattle.locks.specs.Rows.{passed_to}
 
 module _ (locks : ℕ → Lock) (core lock : ℕ) where
   -- the rows of release, in order
   abbrev pub release_rows : List (Option Refusal)
-  release_rows =
-      when (nat_le 8 core) NoCore
-      ∷ when (waits locks core) Waiting
-      ∷ when (nat_le 8 lock) NoLock
-      ∷ when (not (holds locks core lock)) NotHeld
-      ∷ []
+  release_rows = common_rows locks core lock (when (not (holds locks core lock)) NotHeld ∷ [])
 
   -- the core that the lock passed to, if any
   abbrev pub release_answer : Result (Option ℕ) Refusal

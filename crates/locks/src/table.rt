@@ -1,9 +1,8 @@
 //! The eight locks and what each core does about them. The type stands apart from its methods, since the definitions that
 //! the methods' contracts cite name the type.
-ghost use Rattle.std.specs.Prelude.{◌≡◌, ℕ, cond, map, length, get_or, slice_index_or};
+ghost use Rattle.std.specs.Prelude.{◌≡◌, ℕ, cond, length, slice_index_or};
 ghost use Rattle.rules.specs.State.{free};
 ghost use Rattle.rules.specs.Tables.{is};
-ghost use Rattle.locks.specs.Rows.{lock_of};
 ghost use Rattle.locks.specs.Ties.{occurs, waits_for, holder_of};
 ghost use Rattle.locks.specs.declared.attendance.Attendance.TheVariants.{Away};
 
@@ -20,6 +19,6 @@ pub struct Locks {
     cores: [Attendance; 8],
     ghost eight_locks: { length rows ≡ 8 },
     ghost eight_cores: { length cores ≡ 8 },
-    ghost queued: { (core lock : ℕ) → occurs core (get_or (map lock_of rows) lock free).queue ≡ cond {A = ℕ} (waits_for (slice_index_or cores core Away) lock) 1 0 },
-    ghost held: { (core lock : ℕ) → is (get_or (map lock_of rows) lock free).holder core ≡ holder_of (slice_index_or cores core Away) lock },
+    ghost queued: { (core lock : ℕ) → occurs core (slice_index_or rows lock free).queue ≡ cond {A = ℕ} (waits_for (slice_index_or cores core Away) lock) 1 0 },
+    ghost held: { (core lock : ℕ) → is (slice_index_or rows lock free).holder core ≡ holder_of (slice_index_or cores core Away) lock },
 }

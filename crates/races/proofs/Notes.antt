@@ -1,14 +1,16 @@
 -- One more access: the pair of its word and kind takes the core in, every other pair stays, and both tell the earliest access by
 -- another core as the longer list has it. Assumes nothing.
-use Rattle.std.proofs.Common.{◌≡◌, ℕ, ◌<◌, ◌≤◌, Bool, true, false, cond, not, ◌&&◌, eqb, leb, List, [], ◌∷◌, ◌++◌, length, set, Some, None, Option, sym, refl, ap, ◌∙◌, subst, ⊎_elim, arith}
-use Rattle.std.proofs.lemmas.Bool.{eqb-true, eqb-false, eq-eqb, ne_eqb, and_left, and_right, cases_eq, cases_lt, le-leb, cond-true}
-use Rattle.std.proofs.lemmas.List.{get_or-set_same, get_or-set_other, set_past}
+use Rattle.std.proofs.Common.{◌≡◌, ℕ, ◌<◌, ◌≤◌, Bool, true, false, cond, not, eqb, List, [], ◌∷◌, ◌++◌, length, set, Some, None, Option, sym, refl, ◌∙◌, subst, ⊎_elim, arith}
+use Rattle.std.proofs.lemmas.Bool.{ne_eqb, cases_eq}
+use Rattle.std.proofs.lemmas.Bool.Decides.{nat_tests}
+use Rattle.std.proofs.lemmas.Grind.{common_steps}
+use Rattle.std.proofs.lemmas.List.{get_or-set_same, get_or-set_other}
 use Rattle.call.specs.declared.refusal.Access.{Access}
 use Rattle.call.specs.declared.refusal.Access.TheVariants.{Load, Store}
-use Rattle.rules.specs.Refusals.{same_access, by_another, earliest}
+use Rattle.rules.specs.Refusals.{by_another, earliest}
 use Rattle.rules.specs.State.{Accessed}
-use Rattle.races.specs.Pairs.{nobody, pair, noted, other_than, noted_by, other_by, second_by}
-use Rattle.races.specs.Remembered.{pair_of, remembered_in, noted_in, Tells, current}
+use Rattle.races.specs.Pairs.{noted, other_than, noted_by, other_by}
+use Rattle.races.specs.Remembered.{remembered_in, noted_in, Tells, current}
 use Rattle.races.specs.Stamps.{unseen, up_to}
 use Rattle.races.specs.declared.pair.Pair.{Pair}
 use Rattle.races.specs.declared.seen.Seen.{Seen}
@@ -20,74 +22,27 @@ or_else (Some c) test core = Some c
 -- the earliest in a longer list
 pub earliest_push : (access : Access) (core word : ℕ) (accesses : List Accessed) (a : Accessed) → earliest access core word (accesses ++ (a ∷ [])) ≡ or_else (earliest access core word accesses) (by_another access core word a) a.core
 earliest_push access core word [] a = refl
-earliest_push access core word (b ∷ more) a = go (by_another access core word b) (earliest_push access core word more a)
-  where
-    go : (t : Bool) → earliest access core word (more ++ (a ∷ [])) ≡ or_else (earliest access core word more) (by_another access core word a) a.core → cond t (Some b.core) (earliest access core word (more ++ (a ∷ []))) ≡ or_else (cond t (Some b.core) (earliest access core word more)) (by_another access core word a) a.core
-    go true h = refl
-    go false h = h
+earliest_push access core word (b ∷ more) a = let e = earliest_push access core word more a in grind (arith, nat_tests)
 
 -- a pair that takes a core in names it where it named none before
 pub noted_other : (p : Pair) (c core : ℕ) → other_than (noted p c) core ≡ or_else (other_than p core) (not (eqb c core)) c
 noted_other p c core = go p.first p.second
   where
-    flipped : (t : Bool) → cond t None (Some c) ≡ cond (not t) (Some c) None
-    flipped true = refl
-    flipped false = refl
-
-    -- the first core again: it is no newcomer
-    again : (a : ℕ) (second : Option ℕ) → a ≡ c → cond (eqb a core) second (Some a) ≡ or_else (cond (eqb a core) second (Some a)) (not (eqb c core)) c
-    again a second e = pick (eqb a core) second (ap (λ (x : ℕ). eqb x core) e)
-      where
-        pick : (t : Bool) (o : Option ℕ) → t ≡ eqb c core → cond t o (Some a) ≡ or_else (cond t o (Some a)) (not (eqb c core)) c
-        pick true None h = ap (λ (b : Bool). cond (not b) (Some c) None) h
-        pick true (Some x) h = refl
-        pick false o h = refl
-
-    -- another core: it is the second if there was none
-    newcomer : (a : ℕ) (second : Option ℕ) → (a ≡ c → ⊥) → other_than (second_by second a c) core ≡ or_else (cond (eqb a core) second (Some a)) (not (eqb c core)) c
-    newcomer a (Some x) n = pick (eqb a core)
-      where
-        pick : (t : Bool) → cond t (Some x) (Some a) ≡ or_else (cond t (Some x) (Some a)) (not (eqb c core)) c
-        pick true = refl
-        pick false = refl
-    newcomer a None n = pick (eqb a core) refl
-      where
-        pick : (t : Bool) → eqb a core ≡ t → cond t (Some c) (Some a) ≡ or_else (cond t None (Some a)) (not (eqb c core)) c
-        pick true h =
-            let same = eqb-true a core h in
-            let apart : eqb c core ≡ false = ne_eqb c core (λ e. n (same ∙ sym e)) in
-            sym (ap (λ (b : Bool). cond (not b) (Some c) None) apart)
-        pick false h = refl
-
     go : (first second : Option ℕ) → other_than (noted_by first second c) core ≡ or_else (other_by first second core) (not (eqb c core)) c
-    go None second = flipped (eqb c core)
-    go (Some a) second = pick (eqb a c) refl
-      where
-        pick : (t : Bool) → eqb a c ≡ t → other_than (cond t (pair (Some a) second) (second_by second a c)) core ≡ or_else (cond (eqb a core) second (Some a)) (not (eqb c core)) c
-        pick true h = again a second (eqb-true a c h)
-        pick false h = newcomer a second (eqb-false a c h)
+    go None second = grind (arith, nat_tests)
+    go (Some a) None = grind (arith, nat_tests)
+    go (Some a) (Some b) = grind (arith, nat_tests)
 
 -- the pair of the access's own word and kind
 pub noted_tells : (p : Pair) (access : Access) (c word core : ℕ) (accesses : List Accessed) → other_than p core ≡ earliest access core word accesses → other_than (noted p c) core ≡ earliest access core word (accesses ++ (record { core = c; word = word; access = access } ∷ []))
-noted_tells p access c word core accesses e =
-    noted_other p c core
-    ∙ (ap (λ (o : Option ℕ). or_else o (not (eqb c core)) c) e
-    ∙ sym (earliest_push access core word accesses (record { core = c; word = word; access = access })
-    ∙ ap (λ (b : Bool). or_else (earliest access core word accesses) b c) (own access)))
-  where
-    own : (k : Access) → by_another k core word (record { core = c; word = word; access = k }) ≡ not (eqb c core)
-    own Load = ap (λ (b : Bool). b && not (eqb c core)) (eq-eqb word word refl)
-    own Store = ap (λ (b : Bool). b && not (eqb c core)) (eq-eqb word word refl)
+noted_tells p Load c word core accesses e =
+    let n = noted_other p c core in let l = earliest_push Load core word accesses (record { core = c; word = word; access = Load }) in grind (arith, nat_tests)
+noted_tells p Store c word core accesses e =
+    let n = noted_other p c core in let l = earliest_push Store core word accesses (record { core = c; word = word; access = Store }) in grind (arith, nat_tests)
 
 -- an access that is no such access leaves the earliest one
 pub other_tells : (access : Access) (core word : ℕ) (accesses : List Accessed) (a : Accessed) → by_another access core word a ≡ false → earliest access core word (accesses ++ (a ∷ [])) ≡ earliest access core word accesses
-other_tells access core word accesses a n =
-    earliest_push access core word accesses a
-    ∙ (ap (λ (b : Bool). or_else (earliest access core word accesses) b a.core) n ∙ go (earliest access core word accesses))
-  where
-    go : (o : Option ℕ) → or_else o false a.core ≡ o
-    go None = refl
-    go (Some c) = refl
+other_tells access core word accesses a n = let l = earliest_push access core word accesses a in grind (arith, nat_tests)
 
 -- ── one more access in the table ──
 
@@ -95,54 +50,40 @@ module _ (seen : List Seen) (stamp : ℕ) (access : Access) (core word : ℕ) (a
   abbrev longer : List Accessed
   longer = accesses ++ (record { core = core; word = word; access = access } ∷ [])
 
+  -- the earliest access to another word stays
+  elsewhere : (k : Access) (c w : ℕ) → (word ≡ w → ⊥) → earliest k c w longer ≡ earliest k c w accesses
+  elsewhere k c w n =
+      let apart = ne_eqb word w n in other_tells k c w accesses (record { core = core; word = word; access = access }) (grind (arith, nat_tests))
+
   -- a word past the table is not remembered, and no word of the table is it
   pub tells_past : 4096 ≤ word → Tells seen stamp longer
-  tells_past past k c w inside =
-      told k c w inside
-      ∙ sym (other_tells k c w accesses (record { core = core; word = word; access = access }) (and_right (same_access access k) _ (and_left (eqb word w) _ (ne_eqb word w (λ e. omega arith)))))
+  tells_past past k c w inside = told k c w inside ∙ sym (elsewhere k c w (λ e. omega arith))
 
   -- what the word's memory becomes
+  abbrev before : Seen
+  before = record { stamp = stamp; loads = remembered_in seen stamp Load word; stores = remembered_in seen stamp Store word }
+
   abbrev new : Seen
-  new = noted_in access (record { stamp = stamp; loads = remembered_in seen stamp Load word; stores = remembered_in seen stamp Store word }) core
+  new = noted_in access before core
 
   -- of the word itself, by the kind of the access and the kind asked for
   here : (k : Access) (c : ℕ) → word < 4096 → other_than (current new stamp k) c ≡ earliest k c word longer
-  here k c small = go access k refl
+  here k c small = go access k
     where
-      stamped : (s : Seen) → s.stamp ≡ stamp → (j : Access) → current s stamp j ≡ pair_of s j
-      stamped s e j = cond-true (eqb s.stamp stamp) (pair_of s j) nobody (eq-eqb s.stamp stamp e)
-
-      before : Seen
-      before = record { stamp = stamp; loads = remembered_in seen stamp Load word; stores = remembered_in seen stamp Store word }
-
-      go : (a j : Access) → access ≡ a → other_than (current (noted_in a before core) stamp j) c ≡ earliest j c word (accesses ++ (record { core = core; word = word; access = a } ∷ []))
-      go Load Load e =
-          ap (λ (p : Pair). other_than p c) (stamped (noted_in Load before core) refl Load)
-          ∙ noted_tells (remembered_in seen stamp Load word) Load core word c accesses (told Load c word small)
-      go Load Store e =
-          ap (λ (p : Pair). other_than p c) (stamped (noted_in Load before core) refl Store)
-          ∙ (told Store c word small ∙ sym (other_tells Store c word accesses (record { core = core; word = word; access = Load }) refl))
-      go Store Load e =
-          ap (λ (p : Pair). other_than p c) (stamped (noted_in Store before core) refl Load)
-          ∙ (told Load c word small ∙ sym (other_tells Load c word accesses (record { core = core; word = word; access = Store }) refl))
-      go Store Store e =
-          ap (λ (p : Pair). other_than p c) (stamped (noted_in Store before core) refl Store)
-          ∙ noted_tells (remembered_in seen stamp Store word) Store core word c accesses (told Store c word small)
+      go : (a j : Access) → other_than (current (noted_in a before core) stamp j) c ≡ earliest j c word (accesses ++ (record { core = core; word = word; access = a } ∷ []))
+      go Load Load = let t = told Load c word small in let n = noted_tells (remembered_in seen stamp Load word) Load core word c accesses t in grind (arith, nat_tests)
+      go Load Store = let t = told Store c word small in let n = other_tells Store c word accesses (record { core = core; word = word; access = Load }) refl in grind (arith, nat_tests)
+      go Store Load = let t = told Load c word small in let n = other_tells Load c word accesses (record { core = core; word = word; access = Store }) refl in grind (arith, nat_tests)
+      go Store Store = let t = told Store c word small in let n = noted_tells (remembered_in seen stamp Store word) Store core word c accesses t in grind (arith, nat_tests)
 
   pub tells_noted : word < length seen → Tells (set seen word new) stamp longer
   tells_noted inside k c w small = ⊎_elim same apart (cases_eq w word)
     where
       same : w ≡ word → other_than (remembered_in (set seen word new) stamp k w) c ≡ earliest k c w longer
-      same e =
-          ap (λ (v : ℕ). other_than (remembered_in (set seen word new) stamp k v) c) e
-          ∙ (ap (λ (s : Seen). other_than (current s stamp k) c) (get_or-set_same seen word new unseen inside)
-          ∙ (here k c (subst (λ (v : ℕ). v < 4096) e small) ∙ ap (λ (v : ℕ). earliest k c v longer) (sym e)))
+      same e = rw (e, get_or-set_same seen word new unseen inside) (here k c (omega arith))
 
       apart : (w ≡ word → ⊥) → other_than (remembered_in (set seen word new) stamp k w) c ≡ earliest k c w longer
-      apart n =
-          ap (λ (s : Seen). other_than (current s stamp k) c) (get_or-set_other seen word w new unseen n)
-          ∙ (told k c w small
-          ∙ sym (other_tells k c w accesses (record { core = core; word = word; access = access }) (and_right (same_access access k) _ (and_left (eqb word w) _ (ne_eqb word w (λ e. n (sym e)))))))
+      apart n = rw (get_or-set_other seen word w new unseen n) (told k c w small ∙ sym (elsewhere k c w (λ e. n (sym e))))
 
   -- the same of an entry that is that memory
   pub tells_entered : (s : Seen) → s ≡ new → word < length seen → Tells (set seen word s) stamp longer
@@ -155,18 +96,4 @@ noted_stamp Store s core = refl
 
 -- an entry with this stamp leaves no stamp above it
 pub entered_up_to : (seen : List Seen) (stamp word : ℕ) (s : Seen) → s.stamp ≡ stamp → ((w : ℕ) → up_to seen stamp w ≡ true) → (w : ℕ) → up_to (set seen word s) stamp w ≡ true
-entered_up_to seen stamp word s e older w = ⊎_elim same apart (cases_eq w word)
-  where
-    same : w ≡ word → up_to (set seen word s) stamp w ≡ true
-    same p = ⊎_elim inside past (cases_lt word (length seen))
-      where
-        inside : word < length seen → up_to (set seen word s) stamp w ≡ true
-        inside l =
-            ap (λ (v : ℕ). up_to (set seen word s) stamp v) p
-            ∙ (ap (λ (t : Seen). leb t.stamp stamp) (get_or-set_same seen word s unseen l) ∙ le-leb s.stamp stamp (omega arith))
-
-        past : length seen ≤ word → up_to (set seen word s) stamp w ≡ true
-        past l = ap (λ (t : List Seen). up_to t stamp w) (set_past seen word s l) ∙ older w
-
-    apart : (w ≡ word → ⊥) → up_to (set seen word s) stamp w ≡ true
-    apart n = ap (λ (t : Seen). leb t.stamp stamp) (get_or-set_other seen word w s unseen n) ∙ older w
+entered_up_to seen stamp word s e older w = let o = older w in grind (arith, common_steps, nat_tests)

@@ -24,16 +24,13 @@ impl Pair {
     pub fn note(&mut self, core: u8)
         ensures { self.new ≡ noted self.old core }
     {
-        match self.first {
-            None => *self = Pair {
+        match (self.first, self.second) {
+            (None, _) => *self = Pair {
                 first: Some(core),
                 second: None,
             },
-            Some(first) => {
-                if first != core && self.second.is_none() {
-                    self.second = Some(core);
-                }
-            }
+            (Some(first), None) if first != core => self.second = Some(core),
+            (Some(_), _) => {}
         }
     }
 
@@ -41,10 +38,10 @@ impl Pair {
     pub fn other_than(&self, core: u8) -> Option<u8>
         ensures { result ≡ other_than self.now core }
     {
-        match self.first {
-            None => None,
-            Some(first) if first == core => self.second,
-            Some(first) => Some(first),
+        if self.first == Some(core) {
+            self.second
+        } else {
+            self.first
         }
     }
 }

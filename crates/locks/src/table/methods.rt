@@ -1,23 +1,22 @@
 //! What is done to the locks, and what can be asked of them.
-ghost use Rattle.std.specs.Prelude.{◌≡◌, ℕ, ◌<◌, true, false, map, length, replicate, IfSome, IfOk};
+ghost use Rattle.std.specs.Prelude.{◌≡◌, ◌<◌, false, [], IfSome, IfOk, OnOk};
 ghost use Rattle.rules.specs.Refusals.{waits, holds, holds_some, some_held};
 ghost use Rattle.rules.specs.State.{free};
 ghost use Rattle.rules.specs.Steps.{acquired_by, released_to, forgetting};
-ghost use Rattle.rules.specs.Tables.{upd};
+ghost use Rattle.rules.specs.Tables.{first, upd};
 ghost use Rattle.locks.specs.Acquire.{acquire_answer, acquire_after};
+ghost use Rattle.locks.specs.Refused.{common_rows, answered};
 ghost use Rattle.locks.specs.Release.{release_answer, release_after};
-ghost use Rattle.locks.specs.Rows.{lock_of, granted, passed_to};
-ghost use Rattle.locks.specs.Ties.{waiting, holding};
+ghost use Rattle.locks.specs.Rows.{granted, passed_to};
 ghost use Rattle.locks.specs.Views.{locks_of, does};
 ghost use Rattle.locks.specs.declared.attendance.Attendance.TheVariants.{Away, Holds};
 
 use super::Locks;
-use crate::attendance::Attendance;
-use crate::attendance::methods::hand_over;
+use crate::attendance::{Attendance, hand_over};
 use crate::grant::Grant;
 use crate::row::Row;
-use crate::row::several::{acquire_at, any_held, forget_all, holder_at, release_at};
 use call::Refusal;
+use std::array;
 
 impl Locks {
     /// Eight locks that nobody holds.
@@ -25,7 +24,7 @@ impl Locks {
         ensures { locks_of result ≡ (λ _. free) }
     {
         Locks {
-            rows: [Row::free(); 8],
+            rows: array::from_fn(|_| Row::free()),
             cores: [Attendance::Away; 8],
         }
     }
@@ -34,13 +33,14 @@ impl Locks {
     fn does(&self, core: u8) -> Attendance
         ensures { result ≡ does self.now core }
     {
-        if core >= 8 {
-            return Attendance::Away;
-        }
-        self.cores[core as usize]
+        self.cores
+            .get(core as usize)
+            .copied()
+            .unwrap_or(Attendance::Away)
     }
 
     /// Whether the core waits for a lock.
+    #[tactic(auto, using(crate::proofs::Kept::waits_of))]
     pub fn waits(&self, core: u8) -> bool
         ensures { result ≡ waits (locks_of self.now) core }
     {
@@ -51,31 +51,28 @@ impl Locks {
     pub fn holds(&self, core: u8, lock: u8) -> bool
         ensures { result ≡ holds (locks_of self.now) core lock }
     {
-        match holder_at(&self.rows, lock) {
-            Some(holder) => holder == core,
-            None => false,
-        }
+        self.does(core).holds(lock)
     }
 
     /// Whether some lock is held.
     pub fn some_held(&self) -> bool
         ensures { result ≡ some_held (locks_of self.now) }
     {
-        any_held(&self.rows)
+        self.rows.iter().any(|row| row.holder().is_some())
     }
 
     // Whether the core holds some lock.
+    #[tactic(auto, using(crate::proofs::Kept::holds_of))]
     fn holds_some(&self, core: u8) -> bool
         ensures { result ≡ holds_some (locks_of self.now) core }
     {
         self.does(core).is_holding()
     }
 
-    /// Gives a free lock to the core, with its last releaser, or queues the core for a held lock. A core that holds a lock
-    /// or waits for one is refused.
-    pub fn acquire(&mut self, core: u8, lock: u8) -> Result<Grant, Refusal>
-        ensures answer { result ≡ acquire_answer (locks_of self.old) core lock }
-        ensures after { locks_of self.new ≡ acquire_after (locks_of self.old) core lock }
+    // What acquire and release ask first: there are such a core and such a lock, and the core does not wait.
+    fn check(&self, core: u8, lock: u8) -> Result<(), Refusal>
+        ensures answer { result ≡ answered (first (common_rows (locks_of self.now) core lock [])) tt }
+        ensures passed { OnOk result ((core < 8) × (lock < 8) × (waits (locks_of self.now) core ≡ false)) }
     {
         if core >= 8 {
             return Err(Refusal::NoCore);
@@ -86,6 +83,17 @@ impl Locks {
         if lock >= 8 {
             return Err(Refusal::NoLock);
         }
+        Ok(())
+    }
+
+    /// Gives a free lock to the core, with its last releaser, or queues the core for a held lock. A core that holds a lock
+    /// or waits for one is refused.
+    #[tactic(auto, using(crate::proofs::Kept::neither))]
+    pub fn acquire(&mut self, core: u8, lock: u8) -> Result<Grant, Refusal>
+        ensures answer { result ≡ acquire_answer (locks_of self.old) core lock }
+        ensures after { locks_of self.new ≡ acquire_after (locks_of self.old) core lock }
+    {
+        self.check(core, lock)?;
         if self.holds_some(core) {
             return Err(Refusal::HoldsLock);
         }
@@ -98,7 +106,7 @@ impl Locks {
         ensures answer { result ≡ granted (locks_of self.old lock).holder (locks_of self.old lock) }
         ensures after { locks_of self.new ≡ upd (locks_of self.old) lock (acquired_by (locks_of self.old lock).holder (locks_of self.old lock) core) }
     {
-        let grant = acquire_at(&mut self.rows, lock, core);
+        let grant = self.rows[lock as usize].acquire(core);
         self.cores[core as usize] = Attendance::after(grant, lock);
         grant
     }
@@ -110,15 +118,7 @@ impl Locks {
         ensures after { locks_of self.new ≡ release_after (locks_of self.old) core lock }
         ensures below { IfOk result (λ next. IfSome next (λ n. n < 8)) }
     {
-        if core >= 8 {
-            return Err(Refusal::NoCore);
-        }
-        if self.waits(core) {
-            return Err(Refusal::Waiting);
-        }
-        if lock >= 8 {
-            return Err(Refusal::NoLock);
-        }
+        self.check(core, lock)?;
         if !self.holds(core, lock) {
             return Err(Refusal::NotHeld);
         }
@@ -132,7 +132,7 @@ impl Locks {
         ensures after { locks_of self.new ≡ upd (locks_of self.old) lock (released_to (locks_of self.old lock).queue core) }
         ensures below { IfSome result (λ n. n < 8) }
     {
-        let next = release_at(&mut self.rows, lock, core);
+        let next = self.rows[lock as usize].release(core);
         hand_over(&mut self.cores, core, next, lock);
         next
     }
@@ -141,7 +141,9 @@ impl Locks {
     pub fn forget_releasers(&mut self)
         ensures { locks_of self.new ≡ (λ lock. forgetting (locks_of self.old lock)) }
     {
-        forget_all(&mut self.rows);
+        for row in &mut self.rows {
+            row.forget();
+        }
     }
 }
 

@@ -1,35 +1,12 @@
 //! How a phase's accesses are noted, asked for and forgotten.
-ghost use Rattle.std.specs.Prelude.{◌≡◌, ℕ, ◌<◌, cond, List, [], ◌∷◌, ◌++◌, replicate};
-ghost use Rattle.call.specs.declared.refusal.Access.TheVariants.{Load, Store};
-ghost use Rattle.races.specs.Pairs.{nobody, noted, other_than};
-ghost use Rattle.races.specs.Remembered.{current, pair_of, remembered, Remembers};
-ghost use Rattle.races.specs.Stamps.{unseen};
+ghost use Rattle.std.specs.Prelude.{◌≡◌, ℕ, ◌<◌, List, [], ◌∷◌, ◌++◌};
+ghost use Rattle.races.specs.Remembered.{Remembers};
 ghost use Rattle.rules.specs.State.{Accessed};
 ghost use Rattle.rules.specs.Refusals.{earliest};
 
 use super::Races;
-use crate::pair::Pair;
 use crate::seen::Seen;
 use call::Access;
-
-// A word that was never accessed.
-fn unseen() -> Seen
-    ensures { result ≡ unseen }
-{
-    Seen {
-        stamp: 0,
-        loads: Pair::nobody(),
-        stores: Pair::nobody(),
-    }
-}
-
-// A table of words that were never accessed.
-fn blank_table() -> [Seen; 4096]
-    ensures { result ≡ replicate 4096 unseen }
-{
-    let blank = unseen();
-    [blank; 4096]
-}
 
 impl Races {
     /// Nothing remembered.
@@ -37,7 +14,7 @@ impl Races {
         ensures { Remembers result [] }
     {
         Races {
-            seen: blank_table(),
+            seen: [Seen::nothing(0); 4096],
             stamp: 1,
         }
     }
@@ -60,24 +37,8 @@ impl Races {
         if word >= 4_096 {
             return;
         }
-        let seen = self.current(word).with(access, core);
-        self.seen[word as usize] = seen;
-    }
-
-    // What this phase has seen of a word, under its stamp.
-    fn current(&self, word: u16) -> Seen
-        requires { word < 4096 }
-        ensures { result ≡ record { stamp = self.now.stamp; loads = remembered self.now Load word; stores = remembered self.now Store word } }
-    {
-        let seen = self.seen[word as usize];
-        if seen.stamp == self.stamp {
-            return seen;
-        }
-        Seen {
-            stamp: self.stamp,
-            loads: Pair::nobody(),
-            stores: Pair::nobody(),
-        }
+        let seen = &mut self.seen[word as usize];
+        *seen = seen.in_phase(self.stamp).with(access, core);
     }
 
     /// The earliest core other than this one that made an access of this kind to the word in this phase; none of a word past the
@@ -85,17 +46,10 @@ impl Races {
     pub fn by_another(&self, access: Access, core: u8, word: u16) -> Option<u8>
         ensures { (accesses : List Accessed) → Remembers self.now accesses → word < 4096 → result ≡ earliest access core word accesses }
     {
-        if word >= 4_096 {
-            return None;
-        }
-        let seen = self.seen[word as usize];
-        if seen.stamp != self.stamp {
-            return None;
-        }
-        match access {
-            Access::Load => seen.loads.other_than(core),
-            Access::Store => seen.stores.other_than(core),
-        }
+        self.seen
+            .get(word as usize)?
+            .in_phase(self.stamp)
+            .other_than(access, core)
     }
 }
 

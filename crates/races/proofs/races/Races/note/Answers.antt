@@ -11,8 +11,8 @@ invariant_of-self c =
       full = length-set here.seen _ _ ∙ here.full;
       begun = here.begun;
       older =
-          entered_up_to here.seen here.stamp c.args.word c.with-seen.result
-          (ap (λ (s : Seen). s.stamp) c.with-seen.ensures ∙ (noted_stamp c.args.access c.current.result c.args.core ∙ ap (λ (s : Seen). s.stamp) c.current.ensures))
+          entered_up_to here.seen here.stamp c.args.word c.with.result
+          (ap (λ (s : Seen). s.stamp) c.with.ensures ∙ (noted_stamp c.args.access c.in_phase.result c.args.core ∙ ap (λ (s : Seen). s.stamp) c.in_phase.ensures))
           here.older;
     }
 
@@ -23,6 +23,6 @@ returns-then-word-ge4096 c accesses told =
 pub returns : goal.returns
 returns c accesses told =
     let here = c.args.self.now in
-    tells_entered here.seen here.stamp c.args.access c.args.core c.args.word accesses told c.with-seen.result
-    (c.with-seen.ensures ∙ ap (λ (s : Seen). noted_in c.args.access s c.args.core) c.current.ensures)
+    tells_entered here.seen here.stamp c.args.access c.args.core c.args.word accesses told c.with.result
+    (c.with.ensures ∙ ap (λ (s : Seen). noted_in c.args.access s c.args.core) c.in_phase.ensures)
     (let full = here.full in let inside = c.if-word-ge4096.false in omega arith)
