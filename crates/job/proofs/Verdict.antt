@@ -1,6 +1,6 @@
 -- When a job is accepted, taken apart and put together: the verdict is a chain of tests, and it is none exactly where each
 -- of them passes. Assumes nothing.
-use Rattle.std.proofs.Common.{◌≡◌, ℕ, ◌+◌, ◌*◌, ◌^◌, ◌<◌, ◌≤◌, Bool, true, false, cond, ◌&&◌, eqb, ltb, leb, List, length, drop, Some, None, Ok, Err, Option, Result, refl, ap, ◌∙◌, arith}
+use Rattle.std.proofs.Common.{◌≡◌, ℕ, ◌+◌, ◌*◌, ◌^◌, ◌<◌, ◌≤◌, Bool, true, false, cond, ◌&&◌, eqb, ltb, leb, List, length, Some, None, Ok, Err, Option, Result, refl, ap, ◌∙◌, arith}
 use Rattle.std.proofs.lemmas.Bool.{eqb-true, leb-true, le-ltb, le-leb, eq-eqb, and_parts}
 use Rattle.call.specs.Figures.{Five, checked}
 use Rattle.call.specs.Rows.{passes_cores, passes_slots, passes_words, passes_strip, passes_allowance}
@@ -10,7 +10,7 @@ use Rattle.call.specs.declared.fault.FigureFault.TheVariants.{Cores, Slots, Word
 use Rattle.call.specs.declared.fault.JobFault.{JobFault}
 use Rattle.call.specs.declared.fault.JobFault.TheVariants as fault
 use Rattle.job.specs.Bytes.{field}
-use Rattle.job.specs.Reading.{Says, says, said_unless, unless, unless_figures, figures_fault, count_fault, records_fault, job_figures, job_records, job_calls, job_fault, reading}
+use Rattle.job.specs.Reading.{Says, says, said_unless, unless, unless_figures, figures_fault, count_fault, records_fault, job_figures, job_records, records_of, job_calls, job_fault, reading}
 
 -- figures that pass pass each row
 passed : (b : Bool) (later : Result Five FigureFault) (e : FigureFault) (g : Five) → cond b later (Err e) ≡ Ok g → (b ≡ true) × (later ≡ Ok g)
@@ -37,7 +37,7 @@ pub record Lays (bytes : List ℕ) (f : Five) (cs : List Call) : Type 0 where
   pub zeros : field bytes 6 2 ≡ 0
   pub few : job_records bytes ≤ 4608
   pub long : length bytes ≡ 16 + 13 * job_records bytes
-  pub lawful : records_fault (job_records bytes) 16 (drop 16 bytes) ≡ None
+  pub lawful : records_fault 16 (records_of bytes) ≡ None
   pub calls_are : job_calls bytes ≡ cs
 
 unless_none : (a b : Option JobFault) → a ≡ None → b ≡ None → unless a b ≡ None
@@ -76,7 +76,7 @@ pub lays_so : (bytes : List ℕ) (f : Five) (cs : List Call) → reading bytes �
 lays_so bytes f cs h =
     let said = said_parts (job_fault bytes) (says (job_figures bytes) (job_calls bytes)) (says f cs) h in
     let past = (unless_parts (figures_fault bytes) _ said.0).1 in
-    let parts = unless_parts (count_fault bytes) (records_fault (job_records bytes) 16 (drop 16 bytes)) past in
+    let parts = unless_parts (count_fault bytes) (records_fault 16 (records_of bytes)) past in
     let empty = none_only (eqb (field bytes 6 2) 0) _ _ parts.0 in
     let tests = (none_only (leb (job_records bytes) 4608 && eqb (length bytes) (16 + 13 * job_records bytes)) None _ empty.1).0 in
     let both = and_parts (leb (job_records bytes) 4608) (eqb (length bytes) (16 + 13 * job_records bytes)) tests in
