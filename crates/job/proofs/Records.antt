@@ -56,6 +56,9 @@ length_calls (r ∷ rs) place h = go (length_calls rs (place + 13)) (spelled r) 
     go more None k = absurd (false≢true k)
     go more (Some c) k = ap suc (more k)
 
+pub counted : (rs : List (List ℕ)) → none (records_fault 16 rs) ≡ true → length (calls rs) ≡ length rs
+counted rs h = length_calls rs 16 h
+
 -- of records without a fault, each that is left past some spells a call
 abbrev pub Spells : List (List ℕ) → Type 0
 Spells [] = Unit {0}
