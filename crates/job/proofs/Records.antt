@@ -48,16 +48,16 @@ first_unlawful (r ∷ rs) place = go (first_unlawful rs (place + 13)) (spelled r
         ∙ ap (λ (k : ℕ). fault_of place (found k (suc (length rs)))) one
 
 -- records without a fault spell so many calls
-pub length_calls : (rs : List (List ℕ)) (place : ℕ) → none (records_fault place rs) ≡ true → length (calls rs) ≡ length rs
-length_calls [] place h = refl
-length_calls (r ∷ rs) place h = go (length_calls rs (place + 13)) (spelled r) h
+calls_from : (rs : List (List ℕ)) (place : ℕ) → none (records_fault place rs) ≡ true → length (calls rs) ≡ length rs
+calls_from [] place h = refl
+calls_from (r ∷ rs) place h = go (calls_from rs (place + 13)) (spelled r) h
   where
     go : (none (records_fault (place + 13) rs) ≡ true → length (calls rs) ≡ length rs) → (o : Option Call) → none (unless_spelled o (Record place) (records_fault (place + 13) rs)) ≡ true → length (option_to_list o ++ calls rs) ≡ suc (length rs)
     go more None k = absurd (false≢true k)
     go more (Some c) k = ap suc (more k)
 
-pub counted : (rs : List (List ℕ)) → none (records_fault 16 rs) ≡ true → length (calls rs) ≡ length rs
-counted rs h = length_calls rs 16 h
+pub length_calls : (rs : List (List ℕ)) → none (records_fault 16 rs) ≡ true → length (calls rs) ≡ length rs
+length_calls rs h = calls_from rs 16 h
 
 -- of records without a fault, each that is left past some spells a call
 abbrev pub Spells : List (List ℕ) → Type 0

@@ -98,7 +98,7 @@ encodes_again bytes f cs under h =
     let rest : length (drop 16 bytes) ≡ 13 * job_records bytes = simp length-drop (omega arith) in
     let body = body_again (job_records bytes) 16 (drop 16 bytes) rest (All-drop (λ b. b < 256) 16 bytes under) lays.lawful in
     let head = head_again bytes (omega arith) under lays.zeros in
-    let count : length (job_calls bytes) ≡ job_records bytes = length_calls (records_of bytes) 16 (ap none lays.lawful) ∙ length_records (job_records bytes) (drop 16 bytes) in
+    let count : length (job_calls bytes) ≡ job_records bytes = length_calls (records_of bytes) (ap none lays.lawful) ∙ length_records (job_records bytes) (drop 16 bytes) in
     sym (take-append-drop 16 bytes)
     ∙ (λ i. head i ++ body i)
     ∙ ap (λ (n : ℕ). contents (job_figures bytes) n ++ flat_map record_bytes (job_calls bytes)) (sym count)

@@ -9,11 +9,6 @@ use Rattle.call.specs.declared.call.Call.{Call}
 use Rattle.job.specs.Encoding.{record_bytes, contents, encode, by_lawful_core, all_lawful}
 use Rattle.job.proofs.RoundTrip.{length_body}
 
--- the test of the calls from one on
-pub lawful_step : (cs : List Call) (i : ℕ) (d : Call) (b : Bool) → i < length cs → b ≡ by_lawful_core (get_or cs i d) → all_lawful (drop i cs) ≡ (b && all_lawful (drop (i + 1) cs))
-lawful_step cs i d b l e =
-    at_drop_more all_lawful cs i d l ∙ ap (λ (x : Bool). x && all_lawful (drop (i + 1) cs)) (sym e)
-
 -- the bytes with the records of some calls past the first 16
 abbrev pub with_records : List ℕ → List Call → ℕ → List ℕ
 with_records bytes cs i = take 16 bytes ++ (flat_map record_bytes (take i cs) ++ drop (16 + 13 * i) bytes)

@@ -1,6 +1,6 @@
 -- A job as bytes: the contents, 16 bytes, and then 13 bytes for each call. Assumes nothing.
 use Rattle.std.specs.Prelude.{ℕ, ◌+◌, ◌*◌, ◌^◌, ◌<◌, Bool, true, ◌&&◌, List, [], ◌∷◌, ◌++◌, length, nat_le, nat_lt}
-use Rattle.std.specs.List.{flat_map}
+use Rattle.std.specs.List.{flat_map, list_all}
 use Rattle.call.specs.Calls.{caller_of, kind_of, letter_of}
 use Rattle.call.specs.Figures.{Five}
 use Rattle.call.specs.declared.call.Call.{Call}
@@ -77,8 +77,7 @@ by_lawful_core (call.Phase plan) = true
 by_lawful_core call.Settle = true
 
 abbrev pub all_lawful : List Call → Bool
-all_lawful [] = true
-all_lawful (c ∷ cs) = by_lawful_core c && all_lawful cs
+all_lawful cs = list_all by_lawful_core cs
 
 -- whether calls can be encoded into so many bytes: there are at most 4,608, their cores are lawful, and they have room
 abbrev pub encodable : List Call → ℕ → Bool

@@ -68,13 +68,8 @@ fn by_lawful_core(call: Call) -> bool
     ensures lawful { result ≡ true → LawfulCall call }
 {
     match call {
-        Call::Load(core, _) => core < 8,
-        Call::Store(core, _, _) => core < 8,
-        Call::Evict(core, _) => core < 8,
-        Call::Acquire(core, _) => core < 8,
-        Call::Release(core, _) => core < 8,
-        Call::Phase(_) => true,
-        Call::Settle => true,
+        Call::Phase(_) | Call::Settle => true,
+        _ => call.caller() < 8,
     }
 }
 
@@ -83,12 +78,7 @@ fn all_lawful(calls: &[Call]) -> bool
     ensures value { result ≡ all_lawful calls.now }
     ensures lawful { result ≡ true → AllByRecursion LawfulCall calls.now }
 {
-    for call in calls {
-        if !by_lawful_core(*call) {
-            return false;
-        }
-    }
-    true
+    calls.iter().all(|call| by_lawful_core(*call))
 }
 
 // Writes the records of calls, one after another, past the contents.

@@ -117,7 +117,7 @@ impl<'a> Job<'a> {
     }
 
     /// How many calls the job has, those that were read included; 0 of a job that is refused.
-    #[tactic(auto, using(crate::proofs::Records::counted))]
+    #[tactic(auto, using(crate::proofs::Records::length_calls))]
     pub fn records(&self) -> u16
         ensures { result ≡ length (calls_of self.now) }
     {

@@ -2,14 +2,10 @@ use Rattle.std.proofs.Common.{rules}
 use Rattle.job.proofs.Records.{within_more, call_read}
 use Rattle.job.proofs.reader.methods.JobIterator.next.Goals as goal
 
-pub invariant_of-self : goal.invariant_of-self
-invariant_of-self c =
+pub invariant_of-self-clause-within : goal.invariant_of-self-clause-within
+invariant_of-self-clause-within c =
     let job = c.args.self.now in
-    record {
-      few = job.few;
-      lawful = job.lawful;
-      within = within_more job.records.now job.left.now c.in_ok-record.left.now c.in_ok-record.record.now job.within c.in_ok-record.ensures.cases.0;
-    }
+    within_more job.records.now job.left.now c.in_ok-record.left.now c.in_ok-record.record.now job.within c.in_ok-record.ensures.cases.0
 
 pub returns : goal.returns
 returns c =
