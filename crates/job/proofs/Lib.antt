@@ -1,5 +1,4 @@
 -- Lemmas on the bytes of jobs.
-pub mod Fields
 pub mod Records
 pub mod BigEndian
 pub mod Spelling

@@ -4,6 +4,8 @@
 use Rattle.std.proofs.Common.{◌≡◌, ℕ, zero, suc, ◌+◌, ◌*◌, ◌<◌, ◌≤◌, List, [], ◌∷◌, ◌++◌, length, get_or, take, drop, IfOk, Some, None, Ok, Err, Option, Result, sym, refl, ap, ◌∙◌, arith, MatchResult}
 use Rattle.std.proofs.ByRecursion.{All-take, All-drop}
 use Rattle.std.proofs.lemmas.List.{take-append-drop, length-take-le, length-drop, nil_from_length}
+use Rattle.std.proofs.lemmas.Nat.{from_be_bytes-to_be_bytes_2, from_be_bytes-to_be_bytes_4}
+use Rattle.std.specs.Int.{w16, w32, to_be_bytes}
 use Rattle.std.specs.Option.{option_to_list}
 use Rattle.std.specs.Simd.{first_chunks}
 use Rattle.std.specs.Int.Digits.{AllBelowBase}
@@ -13,11 +15,11 @@ use Rattle.call.specs.declared.figures.Figures.{Figures}
 use Rattle.call.specs.declared.call.Call.{Call}
 use Rattle.call.specs.declared.fault.JobFault.{JobFault}
 use Rattle.call.specs.declared.fault.JobFault.TheVariants.{Record}
-use Rattle.job.specs.Bytes.{big_endian, part, field}
+use Rattle.job.specs.Bytes.{part, field}
 use Rattle.job.specs.Encoding.{record_bytes, contents, encode, LawfulCall}
 use Rattle.job.specs.Laws.{ReadsBack, EncodesAgain}
 use Rattle.job.specs.Reading.{says, said_unless, job_fault, reading, spelled, unless_spelled, records_fault, calls, none, job_figures, job_records, records_of, job_calls}
-use Rattle.job.proofs.BigEndian.{number_back, field_back}
+use Rattle.job.proofs.BigEndian.{field_back_2, field_back_4}
 use Rattle.job.proofs.Records.{length_calls}
 use Rattle.job.proofs.Spelling.{record_back, spelled_back, part_take}
 use Rattle.job.proofs.Verdict.{figures_fit, read_so, lays_so}
@@ -41,10 +43,10 @@ body_spells (c ∷ cs) place h =
 pub reads_back : ReadsBack
 reads_back f cs ok lawful few =
     let fit = figures_fit f ok in
-    let words = number_back 2 f.words fit.0 in
-    let strip = number_back 2 f.strip fit.1 in
-    let allowance = number_back 4 f.allowance fit.2 in
-    let count : job_records (encode f cs) ≡ length cs = number_back 4 (length cs) (omega arith) in
+    let words = from_be_bytes-to_be_bytes_2 f.words fit.0 in
+    let strip = from_be_bytes-to_be_bytes_2 f.strip fit.1 in
+    let allowance = from_be_bytes-to_be_bytes_4 f.allowance fit.2 in
+    let count : job_records (encode f cs) ≡ length cs = from_be_bytes-to_be_bytes_4 (length cs) (omega arith) in
     let body = body_spells cs 16 lawful in
     let long = length_body cs in
     read_so (encode f cs) f cs ok
@@ -80,13 +82,13 @@ length_records zero body = refl
 length_records (suc n) body = ap suc (length_records n (drop 13 body))
 
 -- the first 16 bytes are the contents that are read from them
-head_again : (bytes : List ℕ) → 16 ≤ length bytes → AllBelowBase 256 bytes → field bytes 6 2 ≡ 0 → take 16 bytes ≡ contents (job_figures bytes) (job_records bytes)
+head_again : (bytes : List ℕ) → 16 ≤ length bytes → AllBelowBase 256 bytes → field w16 bytes 6 ≡ 0 → take 16 bytes ≡ contents (job_figures bytes) (job_records bytes)
 head_again bytes long under zeros =
-    let words = sym (field_back bytes 2 2 under) in
-    let strip = sym (field_back bytes 4 2 under) in
-    let empty : part bytes 6 2 ≡ 0 ∷ 0 ∷ [] = sym (field_back bytes 6 2 under) ∙ ap (big_endian 2) zeros in
-    let allowance = sym (field_back bytes 8 4 under) in
-    let count = sym (field_back bytes 12 4 under) in
+    let words = sym (field_back_2 bytes 2 under) in
+    let strip = sym (field_back_2 bytes 4 under) in
+    let empty : part bytes 6 2 ≡ 0 ∷ 0 ∷ [] = sym (field_back_2 bytes 6 under) ∙ ap (to_be_bytes w16) zeros in
+    let allowance = sym (field_back_4 bytes 8 under) in
+    let count = sym (field_back_4 bytes 12 under) in
     let same : part bytes 0 16 ≡ contents (job_figures bytes) (job_records bytes) =
     λ i. get_or bytes 0 0 ∷ get_or bytes 1 0 ∷ (words i ++ (strip i ++ (empty i ++ (allowance i ++ count i)))) in
     sym (part_take bytes 16 long) ∙ same

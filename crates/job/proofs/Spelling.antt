@@ -3,16 +3,18 @@
 use Rattle.std.proofs.Common.{◌≡◌, ℕ, zero, suc, ◌^◌, ◌<◌, ◌≤◌, Bool, true, false, cond, ◌&&◌, eqb, ltb, List, [], ◌∷◌, ◌++◌, length, get_or, take, Some, None, Option, sym, refl, ap, ◌∙◌, subst, arith}
 use Rattle.std.proofs.lemmas.List.{take_all}
 use Rattle.std.proofs.lemmas.Bool.{eqb-true, lt-ltb, and_parts}
-use Rattle.std.specs.Int.Digits.{number_from_digits, AllBelowBase}
+use Rattle.std.proofs.lemmas.Nat.{from_be_bytes-to_be_bytes_2, from_be_bytes-to_be_bytes_8}
+use Rattle.std.specs.Int.{w16, w64, to_be_bytes, from_be_bytes}
+use Rattle.std.specs.Int.Digits.{AllBelowBase}
 use Rattle.call.specs.Calls.{caller_of, kind_of, letter_of}
 use Rattle.call.specs.declared.call.Call.{Call}
 use Rattle.call.specs.declared.call.Call.TheVariants as call
 use Rattle.call.specs.declared.call.Kind.{Kind}
 use Rattle.call.specs.declared.call.Kind.TheVariants as kind
-use Rattle.job.specs.Bytes.{big_endian, part, field}
+use Rattle.job.specs.Bytes.{part, field}
 use Rattle.job.specs.Encoding.{lock_of, word_of, payload_of, record_bytes, LawfulCall}
 use Rattle.job.specs.Reading.{kind_by, only_if, spelled_as, spelled_by, spelled}
-use Rattle.job.proofs.BigEndian.{number_back, field_back}
+use Rattle.job.proofs.BigEndian.{field_back_2, field_back_8}
 
 -- the letter of a kind stands for it
 letter_back : (k : Kind) → kind_by (letter_of k) ≡ Some k
@@ -24,7 +26,7 @@ letter_back kind.Release = refl
 letter_back kind.Phase = refl
 letter_back kind.Settle = refl
 
-word_fits : (c : Call) → LawfulCall c → word_of c < 256 ^ 2
+word_fits : (c : Call) → LawfulCall c → word_of c < 2 ^ 16
 word_fits (call.Load core word) h = h.1
 word_fits (call.Store core word value) h = h.1
 word_fits (call.Evict core word) h = h.1
@@ -33,7 +35,7 @@ word_fits (call.Release core lock) h = omega arith
 word_fits (call.Phase plan) h = omega arith
 word_fits call.Settle h = omega arith
 
-payload_fits : (c : Call) → LawfulCall c → payload_of c < 256 ^ 8
+payload_fits : (c : Call) → LawfulCall c → payload_of c < 2 ^ 64
 payload_fits (call.Load core word) h = omega arith
 payload_fits (call.Store core word value) h = omega (arith, h.2)
 payload_fits (call.Evict core word) h = omega arith
@@ -55,9 +57,9 @@ fields_spell call.Settle h = refl
 -- the record of a lawful call spells it
 pub record_back : (c : Call) → LawfulCall c → spelled (record_bytes c) ≡ Some c
 record_back c h =
-    ap (λ (k : Option Kind). spelled_by k (lock_of c) (number_from_digits 256 (big_endian 2 (word_of c))) (number_from_digits 256 (big_endian 8 (payload_of c))) (caller_of c)) (letter_back (kind_of c))
-    ∙ ap (λ (w : ℕ). spelled_as (kind_of c) (lock_of c) w (number_from_digits 256 (big_endian 8 (payload_of c))) (caller_of c)) (number_back 2 (word_of c) (word_fits c h))
-    ∙ ap (λ (p : ℕ). spelled_as (kind_of c) (lock_of c) (word_of c) p (caller_of c)) (number_back 8 (payload_of c) (payload_fits c h))
+    ap (λ (k : Option Kind). spelled_by k (lock_of c) (from_be_bytes w16 (to_be_bytes w16 (word_of c))) (from_be_bytes w64 (to_be_bytes w64 (payload_of c))) (caller_of c)) (letter_back (kind_of c))
+    ∙ ap (λ (w : ℕ). spelled_as (kind_of c) (lock_of c) w (from_be_bytes w64 (to_be_bytes w64 (payload_of c))) (caller_of c)) (from_be_bytes-to_be_bytes_2 (word_of c) (word_fits c h))
+    ∙ ap (λ (p : ℕ). spelled_as (kind_of c) (lock_of c) (word_of c) p (caller_of c)) (from_be_bytes-to_be_bytes_8 (payload_of c) (payload_fits c h))
     ∙ fields_spell c h
 
 -- a letter that stands for a kind is its letter
@@ -157,16 +159,16 @@ row letter lock word payload caller = letter ∷ lock ∷ (word ++ (payload ++ (
 pub spelled_back : (bytes : List ℕ) (c : Call) → length bytes ≡ 13 → AllBelowBase 256 bytes → spelled bytes ≡ Some c → bytes ≡ record_bytes c
 spelled_back bytes c long under h = go (kind_by (get_or bytes 0 0)) refl h
   where
-    go : (o : Option Kind) → kind_by (get_or bytes 0 0) ≡ o → spelled_by o (get_or bytes 1 0) (field bytes 2 2) (field bytes 4 8) (get_or bytes 12 0) ≡ Some c → bytes ≡ record_bytes c
+    go : (o : Option Kind) → kind_by (get_or bytes 0 0) ≡ o → spelled_by o (get_or bytes 1 0) (field w16 bytes 2) (field w64 bytes 4) (get_or bytes 12 0) ≡ Some c → bytes ≡ record_bytes c
     go None e is = let z : ◌≡◌ {A = ℕ} 0 1 = cc in let no_way : ⊥ = omega arith in absurd no_way
     go (Some k) e is =
-        let has = fields_back k (get_or bytes 1 0) (field bytes 2 2) (field bytes 4 8) (get_or bytes 12 0) c is in
+        let has = fields_back k (get_or bytes 1 0) (field w16 bytes 2) (field w64 bytes 4) (get_or bytes 12 0) c is in
         let letter : get_or bytes 0 0 ≡ letter_of (kind_of c) = kind_back (get_or bytes 0 0) k e ∙ ap letter_of (sym has.kind_is) in
-        let word : part bytes 2 2 ≡ big_endian 2 (word_of c) = sym (field_back bytes 2 2 under) ∙ ap (big_endian 2) (sym has.word_is) in
-        let payload : part bytes 4 8 ≡ big_endian 8 (payload_of c) = sym (field_back bytes 4 8 under) ∙ ap (big_endian 8) (sym has.payload_is) in
+        let word : part bytes 2 2 ≡ to_be_bytes w16 (word_of c) = sym (field_back_2 bytes 2 under) ∙ ap (to_be_bytes w16) (sym has.word_is) in
+        let payload : part bytes 4 8 ≡ to_be_bytes w64 (payload_of c) = sym (field_back_8 bytes 4 under) ∙ ap (to_be_bytes w64) (sym has.payload_is) in
         let lock : get_or bytes 1 0 ≡ lock_of c = sym has.lock_is in
         let caller : get_or bytes 12 0 ≡ caller_of c = sym has.caller_is in
         let cut : bytes ≡ part bytes 0 13 = sym (take_all 13 bytes (omega arith)) ∙ sym (part_take bytes 13 (omega arith)) in
-        let same : row (get_or bytes 0 0) (get_or bytes 1 0) (part bytes 2 2) (part bytes 4 8) (get_or bytes 12 0) ≡ row (letter_of (kind_of c)) (lock_of c) (big_endian 2 (word_of c)) (big_endian 8 (payload_of c)) (caller_of c) =
+        let same : row (get_or bytes 0 0) (get_or bytes 1 0) (part bytes 2 2) (part bytes 4 8) (get_or bytes 12 0) ≡ row (letter_of (kind_of c)) (lock_of c) (to_be_bytes w16 (word_of c)) (to_be_bytes w64 (payload_of c)) (caller_of c) =
         λ i. row (letter i) (lock i) (word i) (payload i) (caller i) in
         cut ∙ same

@@ -2,6 +2,7 @@
 -- of them passes. Assumes nothing.
 use Rattle.std.proofs.Common.{◌≡◌, ℕ, ◌+◌, ◌*◌, ◌^◌, ◌<◌, ◌≤◌, Bool, true, false, cond, ◌&&◌, eqb, ltb, leb, List, length, Some, None, Ok, Err, Option, Result, refl, ap, ◌∙◌, arith}
 use Rattle.std.proofs.lemmas.Bool.{eqb-true, leb-true, le-ltb, le-leb, eq-eqb, and_parts}
+use Rattle.std.specs.Int.{w16}
 use Rattle.call.specs.Figures.{Five, checked}
 use Rattle.call.specs.Rows.{passes_cores, passes_slots, passes_words, passes_strip, passes_allowance}
 use Rattle.call.specs.declared.call.Call.{Call}
@@ -18,7 +19,7 @@ passed true later e g h = (refl, h)
 passed false later e g h = let z : ◌≡◌ {A = ℕ} 0 1 = cc in let no_way : ⊥ = omega arith in absurd no_way
 
 -- checked figures fit their fields
-pub figures_fit : (f : Five) → checked f ≡ Ok f → (f.words < 256 ^ 2) × (f.strip < 256 ^ 2) × (f.allowance < 256 ^ 4)
+pub figures_fit : (f : Five) → checked f ≡ Ok f → (f.words < 2 ^ 16) × (f.strip < 2 ^ 16) × (f.allowance < 2 ^ 32)
 figures_fit f h =
     let cores = passed (passes_cores f.cores) _ Cores f h in
     let slots = passed (passes_slots f.slots) _ Slots f cores.1 in
@@ -34,7 +35,7 @@ figures_fit f h =
 -- bytes that say these figures and calls
 pub record Lays (bytes : List ℕ) (f : Five) (cs : List Call) : Type 0 where
   pub figures_are : job_figures bytes ≡ f
-  pub zeros : field bytes 6 2 ≡ 0
+  pub zeros : field w16 bytes 6 ≡ 0
   pub few : job_records bytes ≤ 4608
   pub long : length bytes ≡ 16 + 13 * job_records bytes
   pub lawful : records_fault 16 (records_of bytes) ≡ None
@@ -63,7 +64,7 @@ read_so bytes f cs ok lays =
     let figures : figures_fault bytes ≡ None =
     ap (λ (b : Bool). cond b (Some (fault.Short (length bytes))) (unless_figures (checked (job_figures bytes)) None)) short
     ∙ ap (λ (r : Result Five FigureFault). unless_figures r None) good in
-    let empty : eqb (field bytes 6 2) 0 ≡ true = eq-eqb (field bytes 6 2) 0 lays.zeros in
+    let empty : eqb (field w16 bytes 6) 0 ≡ true = eq-eqb (field w16 bytes 6) 0 lays.zeros in
     let some : leb (job_records bytes) 4608 ≡ true = le-leb (job_records bytes) 4608 lays.few in
     let exact : eqb (length bytes) (16 + 13 * job_records bytes) ≡ true = eq-eqb (length bytes) (16 + 13 * job_records bytes) lays.long in
     let count : count_fault bytes ≡ None = rw (empty, some, exact) in
@@ -77,12 +78,12 @@ lays_so bytes f cs h =
     let said = said_parts (job_fault bytes) (says (job_figures bytes) (job_calls bytes)) (says f cs) h in
     let past = (unless_parts (figures_fault bytes) _ said.0).1 in
     let parts = unless_parts (count_fault bytes) (records_fault 16 (records_of bytes)) past in
-    let empty = none_only (eqb (field bytes 6 2) 0) _ _ parts.0 in
+    let empty = none_only (eqb (field w16 bytes 6) 0) _ _ parts.0 in
     let tests = (none_only (leb (job_records bytes) 4608 && eqb (length bytes) (16 + 13 * job_records bytes)) None _ empty.1).0 in
     let both = and_parts (leb (job_records bytes) 4608) (eqb (length bytes) (16 + 13 * job_records bytes)) tests in
     record {
       figures_are = ap (λ (s : Says). s.figures) said.1;
-      zeros = eqb-true (field bytes 6 2) 0 empty.0;
+      zeros = eqb-true (field w16 bytes 6) 0 empty.0;
       few = leb-true (job_records bytes) 4608 both.0;
       long = eqb-true (length bytes) (16 + 13 * job_records bytes) both.1;
       lawful = parts.1;

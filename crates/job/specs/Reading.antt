@@ -1,5 +1,6 @@
 -- What the bytes of a job say: the first fault, or the figures and the calls that its records spell. Assumes nothing.
 use Rattle.std.specs.Prelude.{ℕ, ◌+◌, ◌*◌, Bool, true, false, cond, ◌&&◌, List, [], ◌∷◌, ◌++◌, length, drop, Some, None, Ok, Err, Option, Result, ◌==◌, nat_le, nat_lt, slice_index}
+use Rattle.std.specs.Int.{w16, w32, w64}
 use Rattle.std.specs.Option.{option_to_list}
 use Rattle.std.specs.Simd.{first_chunks}
 use Rattle.call.specs.Figures.{Five, five, checked}
@@ -57,15 +58,15 @@ spelled_by (Some k) lock word payload caller = spelled_as k lock word payload ca
 -- the call that the 13 bytes of a record spell, if they have its layout
 abbrev pub spelled : List ℕ → Option Call
 spelled bytes =
-    spelled_by (kind_by (slice_index bytes 0)) (slice_index bytes 1) (field bytes 2 2) (field bytes 4 8) (slice_index bytes 12)
+    spelled_by (kind_by (slice_index bytes 0)) (slice_index bytes 1) (field w16 bytes 2) (field w64 bytes 4) (slice_index bytes 12)
 
 -- the figures that stand in the contents
 abbrev pub job_figures : List ℕ → Five
-job_figures bytes = five (slice_index bytes 0) (slice_index bytes 1) (field bytes 2 2) (field bytes 4 2) (field bytes 8 4)
+job_figures bytes = five (slice_index bytes 0) (slice_index bytes 1) (field w16 bytes 2) (field w16 bytes 4) (field w32 bytes 8)
 
 -- the number of records that stands there
 abbrev pub job_records : List ℕ → ℕ
-job_records bytes = field bytes 12 4
+job_records bytes = field w32 bytes 12
 
 -- the records of a job: so many, 13 bytes each, past the contents
 abbrev pub records_of : List ℕ → List (List ℕ)
@@ -103,7 +104,7 @@ figures_fault bytes =
 -- the two bytes past the figures are not zero, or there are too many records or not so many
 abbrev pub count_fault : List ℕ → Option JobFault
 count_fault bytes =
-    cond (field bytes 6 2 == 0)
+    cond (field w16 bytes 6 == 0)
     (cond (nat_le (job_records bytes) 4608 && length bytes == 16 + 13 * job_records bytes) None (Some fault.Length))
     (Some fault.Reserved)
 

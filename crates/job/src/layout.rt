@@ -1,7 +1,6 @@
 //! One record of a job, from its bytes to its call.
-ghost use Rattle.std.specs.Prelude.{◌≡◌, ◌+◌, ◌*◌, cond, length, Some, None, slice_index};
-ghost use Rattle.job.specs.Bytes.{field};
-ghost use Rattle.job.specs.Reading.{only_if, kind_by, spelled_by, spelled};
+ghost use Rattle.std.specs.Prelude.{◌≡◌};
+ghost use Rattle.job.specs.Reading.{kind_by, spelled_by, spelled};
 
 use call::Call;
 
