@@ -9,18 +9,16 @@ ghost use Rattle.job.specs.Reading.{reading, says};
 
 use call::{Call, Figures};
 
-// Letter, lock, word and payload of a call's record; what the call does not use is zero.
-fn fields_of(call: Call) -> (u8, u8, u16, u64)
-    ensures { result ≡ (letter_of (kind_of call), lock_of call, word_of call, payload_of call) }
+// Lock, word and payload of a call's record; what the call does not use is zero.
+fn fields_of(call: Call) -> (u8, u16, u64)
+    ensures { result ≡ (lock_of call, word_of call, payload_of call) }
 {
     match call {
-        Call::Load(_, word) => (b'L', 0, word, 0),
-        Call::Store(_, word, value) => (b'S', 0, word, value as u64),
-        Call::Evict(_, word) => (b'E', 0, word, 0),
-        Call::Acquire(_, lock) => (b'A', lock, 0, 0),
-        Call::Release(_, lock) => (b'R', lock, 0, 0),
-        Call::Phase(plan) => (b'P', 0, 0, plan),
-        Call::Settle => (b'T', 0, 0, 0),
+        Call::Load(_, word) | Call::Evict(_, word) => (0, word, 0),
+        Call::Store(_, word, value) => (0, word, u64::from(value)),
+        Call::Acquire(_, lock) | Call::Release(_, lock) => (lock, 0, 0),
+        Call::Phase(plan) => (0, 0, plan),
+        Call::Settle => (0, 0, 0),
     }
 }
 
@@ -28,7 +26,8 @@ fn fields_of(call: Call) -> (u8, u8, u16, u64)
 fn record_of(call: Call) -> [u8; 13]
     ensures { result ≡ record_bytes call }
 {
-    let (letter, lock, word, payload) = fields_of(call);
+    let letter = call.kind().letter() as u8;
+    let (lock, word, payload) = fields_of(call);
     let [hi, lo] = word.to_be_bytes();
     let [a, b, c, d, e, f, g, h] = payload.to_be_bytes();
     [letter, lock, hi, lo, a, b, c, d, e, f, g, h, call.caller()]
