@@ -1,17 +1,16 @@
 -- Whole jobs, both ways. Forward, the fields of an encoding are the numbers that were encoded, and record after record
 -- spells its call; backward, the first 16 bytes are those of the contents, and 13 bytes at a time are the record of the
 -- call that they spell. Assumes nothing.
-use Rattle.std.proofs.Common.{◌≡◌, ℕ, zero, suc, ◌+◌, ◌*◌, ◌<◌, ◌≤◌, List, [], ◌∷◌, ◌++◌, length, get_or, take, drop, IfOk, Some, None, Ok, Err, Option, Result, sym, refl, ap, ◌∙◌, arith, MatchResult}
+use Rattle.std.proofs.Common.{◌≡◌, ℕ, zero, suc, ◌+◌, ◌*◌, ◌<◌, ◌≤◌, List, [], ◌∷◌, ◌++◌, length, get_or, take, drop, Some, None, Ok, Option, sym, refl, ap, ◌∙◌, arith}
 use Rattle.std.proofs.ByRecursion.{All-take, All-drop}
 use Rattle.std.proofs.lemmas.List.{take-append-drop, length-take-le, length-drop, nil_from_length}
 use Rattle.std.proofs.lemmas.Nat.{from_be_bytes-to_be_bytes_2, from_be_bytes-to_be_bytes_4}
-use Rattle.std.specs.Int.{w16, w32, to_be_bytes}
+use Rattle.std.specs.Int.{w16, to_be_bytes}
 use Rattle.std.specs.Option.{option_to_list}
 use Rattle.std.specs.Simd.{first_chunks}
 use Rattle.std.specs.Int.Digits.{AllBelowBase}
 use Rattle.std.specs.List.{flat_map, AllByRecursion}
 use Rattle.call.specs.Figures.{Five, five}
-use Rattle.call.specs.declared.figures.Figures.{Figures}
 use Rattle.call.specs.declared.call.Call.{Call}
 use Rattle.call.specs.declared.fault.JobFault.{JobFault}
 use Rattle.call.specs.declared.fault.JobFault.TheVariants.{Record}
@@ -70,7 +69,7 @@ body_again (suc n) place body long under h =
     left = first_chunks 13 n (drop 13 body)
 
     go : (records_fault (place + 13) left ≡ None → drop 13 body ≡ flat_map record_bytes (calls left)) → (o : Option Call) → spelled (take 13 body) ≡ o → unless_spelled o (Record place) (records_fault (place + 13) left) ≡ None → body ≡ flat_map record_bytes (option_to_list o ++ calls left)
-    go more None e k = let z : ◌≡◌ {A = ℕ} 0 1 = cc in let no_way : ⊥ = omega arith in absurd no_way
+    go more None e k = grind arith
     go more (Some c) e k =
         let thirteen : length (take 13 body) ≡ 13 = length-take-le 13 body (omega arith) in
         let first : take 13 body ≡ record_bytes c = spelled_back (take 13 body) c thirteen (All-take (λ b. b < 256) 13 body under) e in

@@ -2,6 +2,7 @@
 -- and a record that spells a call has the fields of that call. Assumes nothing.
 use Rattle.std.proofs.Common.{◌≡◌, ℕ, zero, suc, ◌^◌, ◌<◌, ◌≤◌, Bool, true, false, cond, ◌&&◌, eqb, ltb, List, [], ◌∷◌, ◌++◌, length, get_or, take, Some, None, Option, sym, refl, ap, ◌∙◌, subst, arith}
 use Rattle.std.proofs.lemmas.List.{take_all}
+use Rattle.std.proofs.lemmas.Option.{cond_some}
 use Rattle.std.proofs.lemmas.Bool.{eqb-true, lt-ltb, and_parts}
 use Rattle.std.proofs.lemmas.Nat.{from_be_bytes-to_be_bytes_2, from_be_bytes-to_be_bytes_8}
 use Rattle.std.specs.Int.{w16, w64, to_be_bytes, from_be_bytes}
@@ -79,20 +80,19 @@ kind_back letter k h =
     (by_letter letter kind.Release k _
     (by_letter letter kind.Phase k _
     (by_letter letter kind.Settle k None
-    (λ is. let z : ◌≡◌ {A = ℕ} 0 1 = cc in let no_way : ⊥ = omega arith in absurd no_way)))))))
+    (λ is. grind arith)))))))
     h
 
 -- a call has these fields
-pub record HasFields (c : Call) (k : Kind) (lock word payload caller : ℕ) : Type 0 where
-  pub kind_is : kind_of c ≡ k
-  pub lock_is : lock_of c ≡ lock
-  pub word_is : word_of c ≡ word
-  pub payload_is : payload_of c ≡ payload
-  pub caller_is : caller_of c ≡ caller
+abbrev pub HasFields : Call → Kind → ℕ → ℕ → ℕ → ℕ → Type 0
+HasFields c k lock word payload caller =
+    (kind_of c ≡ k) × (lock_of c ≡ lock) × (word_of c ≡ word) × (payload_of c ≡ payload) × (caller_of c ≡ caller)
 
-only_if_parts : (b : Bool) (d c : Call) → only_if b d ≡ Some c → (b ≡ true) × (d ≡ c)
-only_if_parts true d c h = (refl, cc)
-only_if_parts false d c h = let z : ◌≡◌ {A = ℕ} 0 1 = cc in let no_way : ⊥ = omega arith in absurd no_way
+-- a call that was spelled after a test has the fields of the call that stands there
+by_test : (b : Bool) (d c : Call) (k : Kind) (lock word payload caller : ℕ) → (b ≡ true → HasFields d k lock word payload caller) → only_if b d ≡ Some c → HasFields c k lock word payload caller
+by_test b d c k lock word payload caller has h =
+    let said = cond_some b d c h in
+    subst (λ (x : Call). HasFields x k lock word payload caller) said.1 (has said.0)
 
 -- two tests that hold, the second that a number is 0
 zeros : (a : Bool) (m n : ℕ) → (a && (eqb m 0 && eqb n 0)) ≡ true → (a ≡ true) × (0 ≡ m) × (0 ≡ n)
@@ -104,42 +104,19 @@ zeros a m n h =
 -- a call that was spelled has the fields that spelled it
 fields_back : (k : Kind) (lock word payload caller : ℕ) (c : Call) → spelled_as k lock word payload caller ≡ Some c → HasFields c k lock word payload caller
 fields_back kind.Load lock word payload caller c h =
-    let said = only_if_parts _ (call.Load caller word) c h in
-    let empty = zeros (ltb caller 8) lock payload said.0 in
-    subst (λ (d : Call). HasFields d kind.Load lock word payload caller) said.1
-    (record { kind_is = refl; lock_is = empty.1; word_is = refl; payload_is = empty.2; caller_is = refl })
+    by_test _ (call.Load caller word) c _ _ _ _ _ (λ t. let empty = zeros (ltb caller 8) lock payload t in (refl, empty.1, refl, empty.2, refl)) h
 fields_back kind.Store lock word payload caller c h =
-    let said = only_if_parts _ (call.Store caller word payload) c h in
-    let parts = and_parts (ltb caller 8) (eqb lock 0 && ltb payload 4294967296) said.0 in
-    let empty = and_parts (eqb lock 0) (ltb payload 4294967296) parts.1 in
-    subst (λ (d : Call). HasFields d kind.Store lock word payload caller) said.1
-    (record { kind_is = refl; lock_is = sym (eqb-true lock 0 empty.0); word_is = refl; payload_is = refl; caller_is = refl })
+    by_test _ (call.Store caller word payload) c _ _ _ _ _ (λ t. let past = and_parts (ltb caller 8) (eqb lock 0 && ltb payload 4294967296) t in let empty = and_parts (eqb lock 0) (ltb payload 4294967296) past.1 in (refl, sym (eqb-true lock 0 empty.0), refl, refl, refl)) h
 fields_back kind.Evict lock word payload caller c h =
-    let said = only_if_parts _ (call.Evict caller word) c h in
-    let empty = zeros (ltb caller 8) lock payload said.0 in
-    subst (λ (d : Call). HasFields d kind.Evict lock word payload caller) said.1
-    (record { kind_is = refl; lock_is = empty.1; word_is = refl; payload_is = empty.2; caller_is = refl })
+    by_test _ (call.Evict caller word) c _ _ _ _ _ (λ t. let empty = zeros (ltb caller 8) lock payload t in (refl, empty.1, refl, empty.2, refl)) h
 fields_back kind.Acquire lock word payload caller c h =
-    let said = only_if_parts _ (call.Acquire caller lock) c h in
-    let empty = zeros (ltb caller 8) word payload said.0 in
-    subst (λ (d : Call). HasFields d kind.Acquire lock word payload caller) said.1
-    (record { kind_is = refl; lock_is = refl; word_is = empty.1; payload_is = empty.2; caller_is = refl })
+    by_test _ (call.Acquire caller lock) c _ _ _ _ _ (λ t. let empty = zeros (ltb caller 8) word payload t in (refl, refl, empty.1, empty.2, refl)) h
 fields_back kind.Release lock word payload caller c h =
-    let said = only_if_parts _ (call.Release caller lock) c h in
-    let empty = zeros (ltb caller 8) word payload said.0 in
-    subst (λ (d : Call). HasFields d kind.Release lock word payload caller) said.1
-    (record { kind_is = refl; lock_is = refl; word_is = empty.1; payload_is = empty.2; caller_is = refl })
+    by_test _ (call.Release caller lock) c _ _ _ _ _ (λ t. let empty = zeros (ltb caller 8) word payload t in (refl, refl, empty.1, empty.2, refl)) h
 fields_back kind.Phase lock word payload caller c h =
-    let said = only_if_parts _ (call.Phase payload) c h in
-    let empty = zeros (eqb caller 8) lock word said.0 in
-    subst (λ (d : Call). HasFields d kind.Phase lock word payload caller) said.1
-    (record { kind_is = refl; lock_is = empty.1; word_is = empty.2; payload_is = refl; caller_is = sym (eqb-true caller 8 empty.0) })
+    by_test _ (call.Phase payload) c _ _ _ _ _ (λ t. let empty = zeros (eqb caller 8) lock word t in (refl, empty.1, empty.2, refl, sym (eqb-true caller 8 empty.0))) h
 fields_back kind.Settle lock word payload caller c h =
-    let said = only_if_parts _ call.Settle c h in
-    let parts = and_parts (eqb caller 8) (eqb lock 0 && (eqb word 0 && eqb payload 0)) said.0 in
-    let empty = zeros (eqb lock 0) word payload parts.1 in
-    subst (λ (d : Call). HasFields d kind.Settle lock word payload caller) said.1
-    (record { kind_is = refl; lock_is = sym (eqb-true lock 0 empty.0); word_is = empty.1; payload_is = empty.2; caller_is = sym (eqb-true caller 8 parts.0) })
+    by_test _ call.Settle c _ _ _ _ _ (λ t. let past = and_parts (eqb caller 8) (eqb lock 0 && (eqb word 0 && eqb payload 0)) t in let empty = zeros (eqb lock 0) word payload past.1 in (refl, sym (eqb-true lock 0 empty.0), empty.1, empty.2, sym (eqb-true caller 8 past.0))) h
 
 -- so many bytes from the start
 pub part_take : (bytes : List ℕ) (size : ℕ) → size ≤ length bytes → part bytes 0 size ≡ take size bytes
@@ -160,14 +137,14 @@ pub spelled_back : (bytes : List ℕ) (c : Call) → length bytes ≡ 13 → All
 spelled_back bytes c long under h = go (kind_by (get_or bytes 0 0)) refl h
   where
     go : (o : Option Kind) → kind_by (get_or bytes 0 0) ≡ o → spelled_by o (get_or bytes 1 0) (field w16 bytes 2) (field w64 bytes 4) (get_or bytes 12 0) ≡ Some c → bytes ≡ record_bytes c
-    go None e is = let z : ◌≡◌ {A = ℕ} 0 1 = cc in let no_way : ⊥ = omega arith in absurd no_way
+    go None e is = grind arith
     go (Some k) e is =
         let has = fields_back k (get_or bytes 1 0) (field w16 bytes 2) (field w64 bytes 4) (get_or bytes 12 0) c is in
-        let letter : get_or bytes 0 0 ≡ letter_of (kind_of c) = kind_back (get_or bytes 0 0) k e ∙ ap letter_of (sym has.kind_is) in
-        let word : part bytes 2 2 ≡ to_be_bytes w16 (word_of c) = sym (field_back_2 bytes 2 under) ∙ ap (to_be_bytes w16) (sym has.word_is) in
-        let payload : part bytes 4 8 ≡ to_be_bytes w64 (payload_of c) = sym (field_back_8 bytes 4 under) ∙ ap (to_be_bytes w64) (sym has.payload_is) in
-        let lock : get_or bytes 1 0 ≡ lock_of c = sym has.lock_is in
-        let caller : get_or bytes 12 0 ≡ caller_of c = sym has.caller_is in
+        let letter : get_or bytes 0 0 ≡ letter_of (kind_of c) = kind_back (get_or bytes 0 0) k e ∙ ap letter_of (sym has.0) in
+        let word : part bytes 2 2 ≡ to_be_bytes w16 (word_of c) = sym (field_back_2 bytes 2 under) ∙ ap (to_be_bytes w16) (sym has.2) in
+        let payload : part bytes 4 8 ≡ to_be_bytes w64 (payload_of c) = sym (field_back_8 bytes 4 under) ∙ ap (to_be_bytes w64) (sym has.3) in
+        let lock : get_or bytes 1 0 ≡ lock_of c = sym has.1 in
+        let caller : get_or bytes 12 0 ≡ caller_of c = sym has.4 in
         let cut : bytes ≡ part bytes 0 13 = sym (take_all 13 bytes (omega arith)) ∙ sym (part_take bytes 13 (omega arith)) in
         let same : row (get_or bytes 0 0) (get_or bytes 1 0) (part bytes 2 2) (part bytes 4 8) (get_or bytes 12 0) ≡ row (letter_of (kind_of c)) (lock_of c) (to_be_bytes w16 (word_of c)) (to_be_bytes w64 (payload_of c)) (caller_of c) =
         λ i. row (letter i) (lock i) (word i) (payload i) (caller i) in

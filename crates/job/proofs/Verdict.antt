@@ -16,7 +16,7 @@ use Rattle.job.specs.Reading.{Says, says, said_unless, unless, unless_figures, f
 -- figures that pass pass each row
 passed : (b : Bool) (later : Result Five FigureFault) (e : FigureFault) (g : Five) → cond b later (Err e) ≡ Ok g → (b ≡ true) × (later ≡ Ok g)
 passed true later e g h = (refl, h)
-passed false later e g h = let z : ◌≡◌ {A = ℕ} 0 1 = cc in let no_way : ⊥ = omega arith in absurd no_way
+passed false later e g h = grind arith
 
 -- checked figures fit their fields
 pub figures_fit : (f : Five) → checked f ≡ Ok f → (f.words < 2 ^ 16) × (f.strip < 2 ^ 16) × (f.allowance < 2 ^ 32)
@@ -46,15 +46,15 @@ unless_none a b ha hb = ap (λ (x : Option JobFault). unless x b) ha ∙ hb
 
 unless_parts : (a b : Option JobFault) → unless a b ≡ None → (a ≡ None) × (b ≡ None)
 unless_parts None b h = (refl, h)
-unless_parts (Some e) b h = let z : ◌≡◌ {A = ℕ} 0 1 = cc in let no_way : ⊥ = omega arith in absurd no_way
+unless_parts (Some e) b h = grind arith
 
 said_parts : (o : Option JobFault) (s t : Says) → said_unless o s ≡ Ok t → (o ≡ None) × (s ≡ t)
 said_parts None s t h = (refl, cc)
-said_parts (Some e) s t h = let z : ◌≡◌ {A = ℕ} 0 1 = cc in let no_way : ⊥ = omega arith in absurd no_way
+said_parts (Some e) s t h = grind arith
 
 none_only : (b : Bool) (x : Option JobFault) (e : JobFault) → cond b x (Some e) ≡ None → (b ≡ true) × (x ≡ None)
 none_only true x e h = (refl, h)
-none_only false x e h = let z : ◌≡◌ {A = ℕ} 0 1 = cc in let no_way : ⊥ = omega arith in absurd no_way
+none_only false x e h = grind arith
 
 -- such bytes are read so
 pub read_so : (bytes : List ℕ) (f : Five) (cs : List Call) → checked f ≡ Ok f → Lays bytes f cs → reading bytes ≡ Ok (says f cs)

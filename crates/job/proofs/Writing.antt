@@ -1,12 +1,12 @@
 -- Going through the calls that are encoded: the test of all is the test of the first and of those past it, and one more
 -- record extends the records written so far by its bytes. Assumes nothing.
-use Rattle.std.proofs.Common.{◌≡◌, ℕ, ◌+◌, ◌*◌, ◌<◌, ◌≤◌, Bool, ◌&&◌, List, [], ◌++◌, length, get_or, take, drop, sym, ap, ◌∙◌, arith}
+use Rattle.std.proofs.Common.{◌≡◌, ℕ, ◌+◌, ◌*◌, ◌<◌, ◌≤◌, List, [], ◌++◌, length, get_or, take, drop, sym, ap, ◌∙◌, arith}
 use borrow.Rule.Slice.PartMut.{put_mid}
-use Rattle.std.proofs.lemmas.List.{append_assoc, length-append, length-take-le, take_at, drop_at, drop-drop, take_more, take_all, flat_map_more, at_drop_more}
+use Rattle.std.proofs.lemmas.List.{append_assoc, length-append, length-take-le, take_at, drop_at, drop-drop, take_more, take_all, flat_map_more}
 use Rattle.std.specs.List.{flat_map}
 use Rattle.call.specs.Figures.{Five}
 use Rattle.call.specs.declared.call.Call.{Call}
-use Rattle.job.specs.Encoding.{record_bytes, contents, encode, by_lawful_core, all_lawful}
+use Rattle.job.specs.Encoding.{record_bytes, contents, encode}
 use Rattle.job.proofs.RoundTrip.{length_body}
 
 -- the bytes with the records of some calls past the first 16
