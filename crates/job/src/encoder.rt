@@ -1,5 +1,5 @@
 //! The encoder: from figures and calls to the bytes of a job.
-ghost use Rattle.std.specs.Prelude.{◌≡◌, ◌+◌, ◌*◌, ◌≤◌, true, ◌++◌, length, take, drop, if◌then◌else◌, Some, None, Ok, OnSome};
+ghost use Rattle.std.specs.Prelude.{◌≡◌, ◌+◌, ◌*◌, ◌≤◌, true, ◌++◌, length, drop, if◌then◌else◌, Some, None, Ok, OnSome};
 ghost use Rattle.std.specs.List.{flat_map, AllByRecursion};
 ghost use Rattle.call.specs.Calls.{caller_of, kind_of, letter_of};
 ghost use Rattle.call.specs.Figures.{figures as numbers_of};
@@ -80,25 +80,26 @@ fn all_lawful(calls: &[Call]) -> bool
     calls.iter().all(|call| by_lawful_core(*call))
 }
 
-// Writes the records of calls, one after another, past the contents.
+// Writes the records of calls, one after another.
 fn write_records(calls: &[Call], out: &mut [u8])
-    requires { 16 + 13 * length calls.now ≤ length out.old }
-    ensures { out.new ≡ take 16 out.old ++ (flat_map record_bytes calls.now ++ drop (16 + 13 * length calls.now) out.old) }
+    requires { 13 * length calls.now ≤ length out.old }
+    ensures { out.new ≡ flat_map record_bytes calls.now ++ drop (13 * length calls.now) out.old }
 {
     for (i, call) in calls.iter().enumerate() {
-        let at = 16 + 13 * i;
+        let at = 13 * i;
         out[at..at + 13].copy_from_slice(&record_of(*call));
     }
 }
 
-// Writes a whole job into the first bytes of `out`.
+// Writes a whole job into the first bytes of `out`: the contents, and the records past them.
 fn write_job(figures: &Figures, calls: &[Call], out: &mut [u8])
     requires { (length calls.now ≤ 4608) × (16 + 13 * length calls.now ≤ length out.old) }
     ensures after { out.new ≡ encoding (numbers_of figures.now) calls.now ++ drop (16 + 13 * length calls.now) out.old }
     ensures reads { AllByRecursion LawfulCall calls.now → reading (encoding (numbers_of figures.now) calls.now) ≡ Ok (says (numbers_of figures.now) calls.now) }
 {
-    write_records(calls, out);
-    out[0..16].copy_from_slice(&contents_of(figures, calls.len() as u32));
+    let (head, body) = out.split_at_mut(16);
+    head.copy_from_slice(&contents_of(figures, calls.len() as u32));
+    write_records(calls, body);
 }
 
 /// Writes the job of these figures and calls into the first bytes of `out`, leaves the bytes past it as they were, and gives
