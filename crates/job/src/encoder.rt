@@ -7,6 +7,7 @@ ghost use Rattle.job.specs.Encoding.{lock_of, word_of, payload_of, record_bytes,
 ghost use Rattle.job.specs.Encoding.{encode as encoding, LawfulCall};
 ghost use Rattle.job.specs.Reading.{reading, says};
 
+use crate::layout::Record;
 use call::{Call, Figures};
 
 // Lock, word and payload of a call's record; what the call does not use is zero.
@@ -23,7 +24,7 @@ fn fields_of(call: Call) -> (u8, u16, u64)
 }
 
 // The record of a call.
-fn record_of(call: Call) -> [u8; 13]
+fn record_of(call: Call) -> Record
     ensures { result ≡ record_bytes call }
 {
     let letter = call.kind().letter() as u8;

@@ -4,6 +4,9 @@ ghost use Rattle.job.specs.Reading.{kind_by, spelled_by, spelled};
 
 use call::Call;
 
+// The bytes of a record.
+pub(crate) type Record = [u8; 13];
+
 // The call of these fields: the letter decides it, and the fields that it does not use are zero.
 fn call_of(letter: u8, lock: u8, word: u16, payload: u64, caller: u8) -> Option<Call>
     ensures { result ≡ spelled_by (kind_by letter) lock word payload caller }
@@ -20,8 +23,8 @@ fn call_of(letter: u8, lock: u8, word: u16, payload: u64, caller: u8) -> Option<
     }
 }
 
-// The call that the 13 bytes of a record spell, if they have its layout.
-pub(crate) fn spelled_call(bytes: &[u8; 13]) -> Option<Call>
+// The call that a record spells, if it has the layout.
+pub(crate) fn spelled_call(bytes: &Record) -> Option<Call>
     ensures { result ≡ spelled bytes.now }
 {
     let [letter, lock, hi, lo, rest @ ..] = bytes.as_slice() else {

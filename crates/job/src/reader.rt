@@ -3,6 +3,7 @@
 ghost use Rattle.std.specs.Prelude.{◌≡◌, ◌-◌, ◌≤◌, true, length, drop};
 ghost use Rattle.job.specs.Reading.{none, records_fault};
 
+use crate::layout::Record;
 use call::{Figures, JobFault};
 
 pub mod methods;
@@ -13,8 +14,8 @@ pub mod methods;
 #[derive(Drop)]
 pub struct Job<'a> {
     verdict: Result<Figures, JobFault>,
-    records: &'a [[u8; 13]],
-    left: &'a [[u8; 13]],
+    records: &'a [Record],
+    left: &'a [Record],
     ghost few: { length records.now ≤ 4608 },
     ghost lawful: { none (records_fault 16 records.now) ≡ true },
     ghost within: { left.now ≡ drop (length records.now - length left.now) records.now },

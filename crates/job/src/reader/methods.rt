@@ -8,7 +8,7 @@ ghost use Rattle.job.specs.Jobs.{numbers, verdict_of, calls_of, rest, first, fig
 ghost use Rattle.job.specs.Laws.{ReadsBack, EncodesAgain};
 
 use super::Job;
-use crate::layout::spelled_call;
+use crate::layout::{Record, spelled_call};
 use call::{Call, Figures, JobFault};
 
 // The figures of a job, checked.
@@ -44,7 +44,7 @@ fn figures_of(bytes: &[u8]) -> Result<Figures, JobFault>
 }
 
 // The records of a job: their number stands in the contents, past two zero bytes, and the job is as long as it says.
-fn records_of(bytes: &[u8]) -> Result<&[[u8; 13]], JobFault>
+fn records_of(bytes: &[u8]) -> Result<&[Record], JobFault>
     requires { 16 ≤ length bytes.now }
     ensures { MatchResult result (λ records. (count_fault bytes.now ≡ None) × (records.now ≡ records_of bytes.now) × (length records.now ≤ 4608)) (λ e. count_fault bytes.now ≡ Some e) }
 {
@@ -60,7 +60,7 @@ fn records_of(bytes: &[u8]) -> Result<&[[u8; 13]], JobFault>
 }
 
 // The first record that is against its layout.
-fn check_records(records: &[[u8; 13]]) -> Result<(), JobFault>
+fn check_records(records: &[Record]) -> Result<(), JobFault>
     requires { length records.now ≤ 4608 }
     ensures { MatchResult result (λ _. records_fault 16 records.now ≡ None) (λ e. records_fault 16 records.now ≡ Some e) }
 {
@@ -75,7 +75,7 @@ fn check_records(records: &[[u8; 13]]) -> Result<(), JobFault>
 
 // Checks a whole job: its figures and its records, or its first fault. What it finds in a job that is accepted encodes to the
 // job again.
-fn check(bytes: &[u8]) -> Result<(Figures, &[[u8; 13]]), JobFault>
+fn check(bytes: &[u8]) -> Result<(Figures, &[Record]), JobFault>
     ensures value { MatchResult result (λ p. (job_fault bytes.now ≡ None) × (figures p.0 ≡ job_figures bytes.now) × (p.1.now ≡ records_of bytes.now) × (length p.1.now ≤ 4608)) (λ e. job_fault bytes.now ≡ Some e) }
     ensures encoded { IfOk result (λ p. bytes.now ≡ encode (figures p.0) (calls p.1.now)) }
 {
