@@ -2,6 +2,5 @@
 pub mod Records
 pub mod BigEndian
 pub mod Spelling
-pub mod Verdict
 pub mod RoundTrip
 pub mod Writing

@@ -1,10 +1,8 @@
 -- Going through the records of a job one by one: the place of the first that is against its layout, and records that each
 -- spell a call. Assumes nothing.
-use Rattle.std.proofs.Common.{◌≡◌, ℕ, zero, suc, ◌+◌, ◌-◌, ◌*◌, Bool, true, false, not, cond, ltb, List, [], ◌∷◌, ◌++◌, length, drop, is_some, Some, None, Option, sym, refl, ap, ◌∙◌, subst, arith, MatchOption}
-use lib.Dec.{leb-suc-suc}
+use Rattle.std.proofs.Common.{◌≡◌, ℕ, zero, suc, ◌+◌, ◌-◌, ◌*◌, Bool, true, not, cond, ltb, List, [], ◌∷◌, ◌++◌, length, drop, is_some, Some, None, Option, sym, refl, ap, ◌∙◌, subst, arith, MatchOption}
 use Rattle.std.proofs.lemmas.List.{length-drop, drop-drop}
-use Rattle.std.proofs.lemmas.Bool.{lt-ltb, false≢true}
-use Rattle.std.specs.List.{position_or_len}
+use Rattle.std.specs.List.{position, position_or_len}
 use Rattle.std.specs.Option.{option_map, option_to_list}
 use Rattle.call.specs.declared.call.Call.{Call}
 use Rattle.call.specs.declared.fault.JobFault.{JobFault}
@@ -20,63 +18,43 @@ unlawful r = not (is_some (spelled r))
 abbrev pub fault_of : ℕ → Option ℕ → Option JobFault
 fault_of place at = option_map (λ i. Record (place + 13 * i)) at
 
+-- one record further on a fault stands 13 bytes on
+later : (place n len : ℕ) → fault_of (place + 13) (cond (ltb n len) (Some n) None) ≡ fault_of place (cond (ltb (1 + n) (suc len)) (Some (1 + n)) None)
+later place n len = grind arith
+
 -- the first record against its layout is the first that is not spelled
-pub first_unlawful : (rs : List (List ℕ)) (place : ℕ) → records_fault place rs ≡ fault_of place (cond (ltb (position_or_len unlawful rs) (length rs)) (Some (position_or_len unlawful rs)) None)
+pub first_unlawful : (rs : List (List ℕ)) (place : ℕ) → records_fault place rs ≡ fault_of place (position unlawful rs)
 first_unlawful [] place = refl
 first_unlawful (r ∷ rs) place = go (first_unlawful rs (place + 13)) (spelled r)
   where
     n : ℕ
     n = position_or_len unlawful rs
 
-    found : ℕ → ℕ → Option ℕ
-    found k len = cond (ltb k len) (Some k) None
+    found : ℕ → Option ℕ
+    found k = cond (ltb k (suc (length rs))) (Some k) None
 
-    later : (b : Bool) → fault_of (place + 13) (cond b (Some n) None) ≡ fault_of place (cond b (Some (suc n)) None)
-    later true = let past : place + 13 + 13 * n ≡ place + 13 * suc n = omega arith in ap (λ (k : ℕ). Some (Record k)) past
-    later false = refl
-
-    go : records_fault (place + 13) rs ≡ fault_of (place + 13) (found n (length rs)) → (o : Option Call) → unless_spelled o (Record place) (records_fault (place + 13) rs) ≡ fault_of place (found (cond (not (not (is_some o))) (1 + n) 0) (suc (length rs)))
-    go more None =
-        let here : place ≡ place + 13 * 0 = omega arith in
-        ap (λ (k : ℕ). Some (Record k)) here
-        ∙ ap (λ (b : Bool). fault_of place (cond b (Some 0) None)) (sym (lt-ltb 0 (suc (length rs)) (omega arith)))
-    go more (Some c) =
-        let one : suc n ≡ 1 + n = omega arith in
-        more
-        ∙ later (ltb n (length rs))
-        ∙ ap (λ (b : Bool). fault_of place (cond b (Some (suc n)) None)) (sym (leb-suc-suc (suc n) (length rs)))
-        ∙ ap (λ (k : ℕ). fault_of place (found k (suc (length rs)))) one
+    go : records_fault (place + 13) rs ≡ fault_of (place + 13) (position unlawful rs) → (o : Option Call) → unless_spelled o (Record place) (records_fault (place + 13) rs) ≡ fault_of place (found (cond (not (not (is_some o))) (1 + n) 0))
+    go more None = grind arith
+    go more (Some c) = more ∙ later place n (length rs)
 
 -- records without a fault spell so many calls
 calls_from : (rs : List (List ℕ)) (place : ℕ) → none (records_fault place rs) ≡ true → length (calls rs) ≡ length rs
 calls_from [] place h = refl
-calls_from (r ∷ rs) place h = go (calls_from rs (place + 13)) (spelled r) h
-  where
-    go : (none (records_fault (place + 13) rs) ≡ true → length (calls rs) ≡ length rs) → (o : Option Call) → none (unless_spelled o (Record place) (records_fault (place + 13) rs)) ≡ true → length (option_to_list o ++ calls rs) ≡ suc (length rs)
-    go more None k = absurd (false≢true k)
-    go more (Some c) k = ap suc (more k)
+calls_from (r ∷ rs) place h = let more = calls_from rs (place + 13) in grind arith
 
 pub length_calls : (rs : List (List ℕ)) → none (records_fault 16 rs) ≡ true → length (calls rs) ≡ length rs
 length_calls rs h = calls_from rs 16 h
 
--- of records without a fault, each that is left past some spells a call
+-- of records without a fault, the first that is left past some spells a call
 abbrev pub Spells : List (List ℕ) → Type 0
 Spells [] = Unit {0}
-Spells (r ∷ rs) = (c : Call) × (spelled r ≡ Some c)
+Spells (r ∷ rs) = is_some (spelled r) ≡ true
 
-pub left_spells : (k place : ℕ) (rs : List (List ℕ)) → none (records_fault place rs) ≡ true → Spells (drop k rs)
+left_spells : (k place : ℕ) (rs : List (List ℕ)) → none (records_fault place rs) ≡ true → Spells (drop k rs)
 left_spells zero place [] h = tt
 left_spells (suc k) place [] h = tt
-left_spells zero place (r ∷ rs) h = go (spelled r) refl h
-  where
-    go : (o : Option Call) → spelled r ≡ o → none (unless_spelled o (Record place) (records_fault (place + 13) rs)) ≡ true → (c : Call) × (spelled r ≡ Some c)
-    go None e k = absurd (false≢true k)
-    go (Some c) e k = (c, e)
-left_spells (suc k) place (r ∷ rs) h = left_spells k (place + 13) rs (go (spelled r) h)
-  where
-    go : (o : Option Call) → none (unless_spelled o (Record place) (records_fault (place + 13) rs)) ≡ true → none (records_fault (place + 13) rs) ≡ true
-    go None k = absurd (false≢true k)
-    go (Some c) k = k
+left_spells zero place (r ∷ rs) h = grind arith
+left_spells (suc k) place (r ∷ rs) h = left_spells k (place + 13) rs (grind arith)
 
 -- one record is read of those left: the rest of them are still an end of all, and the calls left begin with the call that it spells
 module _ (rs left more : List (List ℕ)) (r : List ℕ) (within : left ≡ drop (length rs - length left) rs) (e : left ≡ r ∷ more) where
@@ -90,6 +68,5 @@ module _ (rs left more : List (List ℕ)) (r : List ℕ) (within : left ≡ drop
   pub call_read : (o : Option Call) → none (records_fault 16 rs) ≡ true → o ≡ spelled r → (o ≡ first (calls left)) × (calls more ≡ drop 1 (calls left)) × MatchOption o ((calls left ≡ []) × (calls more ≡ [])) (λ c. calls left ≡ c ∷ calls more)
   call_read o h is =
       let found : Spells (r ∷ more) = subst Spells (sym within ∙ e) (left_spells (length rs - length left) 16 rs h) in
-      let here : o ≡ Some found.0 = is ∙ found.1 in
-      let all : calls left ≡ found.0 ∷ calls more = ap calls e ∙ ap (λ (x : Option Call). option_to_list x ++ calls more) found.1 in
-      (here ∙ ap first (sym all), ap (drop 1) (sym all), subst (λ x. MatchOption x ((calls left ≡ []) × (calls more ≡ [])) (λ c. calls left ≡ c ∷ calls more)) (sym here) all)
+      let all : calls left ≡ option_to_list (spelled r) ++ calls more = ap calls e in
+      grind arith
