@@ -1,6 +1,6 @@
 -- Going through the records of a job one by one: the place of the first that is against its layout, and records that each
 -- spell a call. Assumes nothing.
-use Rattle.std.proofs.Common.{◌≡◌, ℕ, zero, suc, ◌+◌, ◌-◌, ◌*◌, Bool, true, not, cond, ltb, List, [], ◌∷◌, ◌++◌, length, drop, is_some, Some, None, Option, sym, refl, ap, ◌∙◌, subst, arith, MatchOption}
+use Rattle.std.proofs.Common.{◌≡◌, ℕ, zero, suc, ◌+◌, ◌-◌, ◌*◌, Bool, true, not, cond, ltb, List, [], ◌∷◌, ◌++◌, length, drop, is_some, Some, None, Option, sym, refl, ap, ◌∙◌, subst, arith}
 use Rattle.std.proofs.lemmas.List.{length-drop, drop-drop}
 use Rattle.std.specs.List.{position, position_or_len}
 use Rattle.std.specs.Option.{option_map, option_to_list}
@@ -65,7 +65,7 @@ module _ (rs left more : List (List ℕ)) (r : List ℕ) (within : left ≡ drop
       let next : length rs - length left + 1 ≡ length rs - length more = omega (arith, size, end) in
       ap (drop 1) (sym e ∙ within) ∙ drop-drop 1 (length rs - length left) rs ∙ ap (λ (k : ℕ). drop k rs) next
 
-  pub call_read : (o : Option Call) → none (records_fault 16 rs) ≡ true → o ≡ spelled r → (o ≡ first (calls left)) × (calls more ≡ drop 1 (calls left)) × MatchOption o ((calls left ≡ []) × (calls more ≡ [])) (λ c. calls left ≡ c ∷ calls more)
+  pub call_read : (o : Option Call) → none (records_fault 16 rs) ≡ true → o ≡ spelled r → (o ≡ first (calls left)) × (calls more ≡ drop 1 (calls left))
   call_read o h is =
       let found : Spells (r ∷ more) = subst Spells (sym within ∙ e) (left_spells (length rs - length left) 16 rs h) in
       let all : calls left ≡ option_to_list (spelled r) ++ calls more = ap calls e in

@@ -1,6 +1,6 @@
 //! How a job is opened, and how its calls are read one after another.
 ghost use Rattle.std.specs.Prelude.{◌≡◌, ◌≤◌, length, drop, IfOk, Some, None, Ok, MatchResult};
-ghost use Rattle.std.specs.Iterator.{YieldsFirst, MakesProgress, item_count};
+ghost use Rattle.std.specs.Iterator.{YieldsFirst, item_count};
 ghost use Rattle.call.specs.Figures.{figures, checked};
 ghost use Rattle.job.specs.Reading.{figures_fault, count_fault, records_fault, job_figures, records_of, job_fault, reading, calls};
 ghost use Rattle.job.specs.Encoding.{encode};
@@ -123,8 +123,20 @@ impl<'a> Job<'a> {
     {
         self.records.len() as u16
     }
+
+    /// Reads the next call; none where all were read.
+    pub fn next_call(&mut self) -> Option<Call>
+        ensures value { result ≡ first (rest self.old) }
+        ensures after { rest self.new ≡ drop 1 (rest self.old) }
+        ensures same { (verdict_of self.new ≡ verdict_of self.old) × (calls_of self.new ≡ calls_of self.old) }
+    {
+        let (record, left) = self.left.split_first()?;
+        self.left = left;
+        spelled_call(record)
+    }
 }
 
+/// A job gives the calls that are still to be read, in order.
 impl Iterator for Job<'_> {
     type Item = Call;
 
@@ -132,16 +144,8 @@ impl Iterator for Job<'_> {
 
     ghost remaining = { item_count rest };
 
-    /// Reads the next call; none where all were read.
-    fn next(&mut self) -> Option<Call>
-        ensures value { result ≡ first (rest self.old) }
-        ensures after { rest self.new ≡ drop 1 (rest self.old) }
-        ensures same { (verdict_of self.new ≡ verdict_of self.old) × (calls_of self.new ≡ calls_of self.old) }
-        ensures steps { YieldsFirst rest self.old result self.new }
-        ensures goes { MakesProgress (λ _. Unit {0}) (item_count rest) self.old result self.new }
-    {
-        let (record, left) = self.left.split_first()?;
-        self.left = left;
-        spelled_call(record)
+    // It keeps the trait's contract, on which the proof of a loop over a job rests: more is said of a call at `next_call`.
+    fn next(&mut self) -> Option<Call> {
+        self.next_call()
     }
 }
