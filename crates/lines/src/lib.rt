@@ -85,8 +85,9 @@ mod tests {
 
     // The field begins with the line, whose length is the one given, and is full of dots past it.
     fn holds(field: &[u8; 48], size: usize, line: &[u8]) -> bool {
-        let (front, rest) = field.split_at(size);
-        front == line && rest.iter().all(|byte| *byte == b'.')
+        size == line.len()
+            && field.starts_with(line)
+            && field.iter().skip(size).all(|byte| *byte == b'.')
     }
 
     fn prints(caller: u8, kind: Kind, answer: Answer, line: &[u8]) -> bool {
