@@ -1,8 +1,6 @@
 -- Lemmas on the bytes of jobs.
-pub mod Fields
 pub mod Records
 pub mod BigEndian
 pub mod Spelling
-pub mod Verdict
 pub mod RoundTrip
 pub mod Writing

@@ -1,148 +1,64 @@
 -- One record, both ways. A record is five fields, and a call is known by its five: a lawful call's record has these fields,
 -- and a record that spells a call has the fields of that call. Assumes nothing.
-use Rattle.std.proofs.Common.{◌≡◌, ℕ, zero, suc, ◌^◌, ◌<◌, ◌≤◌, Bool, true, false, cond, ◌&&◌, eqb, ltb, List, [], ◌∷◌, ◌++◌, length, get_or, take, Some, None, Option, sym, refl, ap, ◌∙◌, subst, arith}
+use Rattle.std.proofs.Common.{◌≡◌, ℕ, zero, suc, ◌^◌, ◌<◌, ◌≤◌, List, [], ◌∷◌, ◌++◌, length, get_or, take, Some, None, Option, sym, refl, ap, ◌∙◌, arith}
 use Rattle.std.proofs.lemmas.List.{take_all}
-use Rattle.std.proofs.lemmas.Bool.{eqb-true, lt-ltb, and_parts}
-use Rattle.std.specs.Int.Digits.{number_from_digits, AllBelowBase}
+use Rattle.std.proofs.lemmas.Nat.{from_be_bytes-to_be_bytes_2, from_be_bytes-to_be_bytes_8}
+use Rattle.std.specs.Int.{w16, w64, to_be_bytes, from_be_bytes}
+use Rattle.std.specs.Int.Digits.{AllBelowBase}
 use Rattle.call.specs.Calls.{caller_of, kind_of, letter_of}
 use Rattle.call.specs.declared.call.Call.{Call}
-use Rattle.call.specs.declared.call.Call.TheVariants as call
 use Rattle.call.specs.declared.call.Kind.{Kind}
 use Rattle.call.specs.declared.call.Kind.TheVariants as kind
-use Rattle.job.specs.Bytes.{big_endian, part, field}
+use Rattle.job.specs.Bytes.{part, field}
 use Rattle.job.specs.Encoding.{lock_of, word_of, payload_of, record_bytes, LawfulCall}
-use Rattle.job.specs.Reading.{kind_by, only_if, spelled_as, spelled_by, spelled}
-use Rattle.job.proofs.BigEndian.{number_back, field_back}
+use Rattle.job.specs.Reading.{kind_by, spelled_as, spelled_by, spelled}
+use Rattle.job.proofs.BigEndian.{field_back_2, field_back_8}
 
 -- the letter of a kind stands for it
 letter_back : (k : Kind) → kind_by (letter_of k) ≡ Some k
-letter_back kind.Load = refl
-letter_back kind.Store = refl
-letter_back kind.Evict = refl
-letter_back kind.Acquire = refl
-letter_back kind.Release = refl
-letter_back kind.Phase = refl
-letter_back kind.Settle = refl
+letter_back k = grind arith
 
-word_fits : (c : Call) → LawfulCall c → word_of c < 256 ^ 2
-word_fits (call.Load core word) h = h.1
-word_fits (call.Store core word value) h = h.1
-word_fits (call.Evict core word) h = h.1
-word_fits (call.Acquire core lock) h = omega arith
-word_fits (call.Release core lock) h = omega arith
-word_fits (call.Phase plan) h = omega arith
-word_fits call.Settle h = omega arith
+word_fits : (c : Call) → LawfulCall c → word_of c < 2 ^ 16
+word_fits c h = grind arith
 
-payload_fits : (c : Call) → LawfulCall c → payload_of c < 256 ^ 8
-payload_fits (call.Load core word) h = omega arith
-payload_fits (call.Store core word value) h = omega (arith, h.2)
-payload_fits (call.Evict core word) h = omega arith
-payload_fits (call.Acquire core lock) h = omega arith
-payload_fits (call.Release core lock) h = omega arith
-payload_fits (call.Phase plan) h = h
-payload_fits call.Settle h = omega arith
+payload_fits : (c : Call) → LawfulCall c → payload_of c < 2 ^ 64
+payload_fits c h = grind arith
 
 -- the fields of a lawful call spell it
 fields_spell : (c : Call) → LawfulCall c → spelled_as (kind_of c) (lock_of c) (word_of c) (payload_of c) (caller_of c) ≡ Some c
-fields_spell (call.Load core word) h = rw (lt-ltb core 8 h.0)
-fields_spell (call.Store core word value) h = rw (lt-ltb core 8 h.0, lt-ltb value 4294967296 h.2)
-fields_spell (call.Evict core word) h = rw (lt-ltb core 8 h.0)
-fields_spell (call.Acquire core lock) h = rw (lt-ltb core 8 h.0)
-fields_spell (call.Release core lock) h = rw (lt-ltb core 8 h.0)
-fields_spell (call.Phase plan) h = refl
-fields_spell call.Settle h = refl
+fields_spell c h = grind arith
 
 -- the record of a lawful call spells it
 pub record_back : (c : Call) → LawfulCall c → spelled (record_bytes c) ≡ Some c
 record_back c h =
-    ap (λ (k : Option Kind). spelled_by k (lock_of c) (number_from_digits 256 (big_endian 2 (word_of c))) (number_from_digits 256 (big_endian 8 (payload_of c))) (caller_of c)) (letter_back (kind_of c))
-    ∙ ap (λ (w : ℕ). spelled_as (kind_of c) (lock_of c) w (number_from_digits 256 (big_endian 8 (payload_of c))) (caller_of c)) (number_back 2 (word_of c) (word_fits c h))
-    ∙ ap (λ (p : ℕ). spelled_as (kind_of c) (lock_of c) (word_of c) p (caller_of c)) (number_back 8 (payload_of c) (payload_fits c h))
+    ap (λ (k : Option Kind). spelled_by k (lock_of c) (from_be_bytes w16 (to_be_bytes w16 (word_of c))) (from_be_bytes w64 (to_be_bytes w64 (payload_of c))) (caller_of c)) (letter_back (kind_of c))
+    ∙ ap (λ (w : ℕ). spelled_as (kind_of c) (lock_of c) w (from_be_bytes w64 (to_be_bytes w64 (payload_of c))) (caller_of c)) (from_be_bytes-to_be_bytes_2 (word_of c) (word_fits c h))
+    ∙ ap (λ (p : ℕ). spelled_as (kind_of c) (lock_of c) (word_of c) p (caller_of c)) (from_be_bytes-to_be_bytes_8 (payload_of c) (payload_fits c h))
     ∙ fields_spell c h
 
 -- a letter that stands for a kind is its letter
-by_letter : (letter : ℕ) (j k : Kind) (later : Option Kind) → (later ≡ Some k → letter ≡ letter_of k) → cond (eqb letter (letter_of j)) (Some j) later ≡ Some k → letter ≡ letter_of k
-by_letter letter j k later back h = go (eqb letter (letter_of j)) refl h
-  where
-    go : (b : Bool) → eqb letter (letter_of j) ≡ b → cond b (Some j) later ≡ Some k → letter ≡ letter_of k
-    go true e is = let same : j ≡ k = cc in eqb-true letter (letter_of j) e ∙ ap letter_of same
-    go false e is = back is
-
 kind_back : (letter : ℕ) (k : Kind) → kind_by letter ≡ Some k → letter ≡ letter_of k
-kind_back letter k h =
-    by_letter letter kind.Load k _
-    (by_letter letter kind.Store k _
-    (by_letter letter kind.Evict k _
-    (by_letter letter kind.Acquire k _
-    (by_letter letter kind.Release k _
-    (by_letter letter kind.Phase k _
-    (by_letter letter kind.Settle k None
-    (λ is. let z : ◌≡◌ {A = ℕ} 0 1 = cc in let no_way : ⊥ = omega arith in absurd no_way)))))))
-    h
+kind_back letter k h = grind arith
 
 -- a call has these fields
-pub record HasFields (c : Call) (k : Kind) (lock word payload caller : ℕ) : Type 0 where
-  pub kind_is : kind_of c ≡ k
-  pub lock_is : lock_of c ≡ lock
-  pub word_is : word_of c ≡ word
-  pub payload_is : payload_of c ≡ payload
-  pub caller_is : caller_of c ≡ caller
-
-only_if_parts : (b : Bool) (d c : Call) → only_if b d ≡ Some c → (b ≡ true) × (d ≡ c)
-only_if_parts true d c h = (refl, cc)
-only_if_parts false d c h = let z : ◌≡◌ {A = ℕ} 0 1 = cc in let no_way : ⊥ = omega arith in absurd no_way
-
--- two tests that hold, the second that a number is 0
-zeros : (a : Bool) (m n : ℕ) → (a && (eqb m 0 && eqb n 0)) ≡ true → (a ≡ true) × (0 ≡ m) × (0 ≡ n)
-zeros a m n h =
-    let parts = and_parts a (eqb m 0 && eqb n 0) h in
-    let both = and_parts (eqb m 0) (eqb n 0) parts.1 in
-    (parts.0, sym (eqb-true m 0 both.0), sym (eqb-true n 0 both.1))
+abbrev pub HasFields : Call → Kind → ℕ → ℕ → ℕ → ℕ → Type 0
+HasFields c k lock word payload caller =
+    (kind_of c ≡ k) × (lock_of c ≡ lock) × (word_of c ≡ word) × (payload_of c ≡ payload) × (caller_of c ≡ caller)
 
 -- a call that was spelled has the fields that spelled it
 fields_back : (k : Kind) (lock word payload caller : ℕ) (c : Call) → spelled_as k lock word payload caller ≡ Some c → HasFields c k lock word payload caller
-fields_back kind.Load lock word payload caller c h =
-    let said = only_if_parts _ (call.Load caller word) c h in
-    let empty = zeros (ltb caller 8) lock payload said.0 in
-    subst (λ (d : Call). HasFields d kind.Load lock word payload caller) said.1
-    (record { kind_is = refl; lock_is = empty.1; word_is = refl; payload_is = empty.2; caller_is = refl })
-fields_back kind.Store lock word payload caller c h =
-    let said = only_if_parts _ (call.Store caller word payload) c h in
-    let parts = and_parts (ltb caller 8) (eqb lock 0 && ltb payload 4294967296) said.0 in
-    let empty = and_parts (eqb lock 0) (ltb payload 4294967296) parts.1 in
-    subst (λ (d : Call). HasFields d kind.Store lock word payload caller) said.1
-    (record { kind_is = refl; lock_is = sym (eqb-true lock 0 empty.0); word_is = refl; payload_is = refl; caller_is = refl })
-fields_back kind.Evict lock word payload caller c h =
-    let said = only_if_parts _ (call.Evict caller word) c h in
-    let empty = zeros (ltb caller 8) lock payload said.0 in
-    subst (λ (d : Call). HasFields d kind.Evict lock word payload caller) said.1
-    (record { kind_is = refl; lock_is = empty.1; word_is = refl; payload_is = empty.2; caller_is = refl })
-fields_back kind.Acquire lock word payload caller c h =
-    let said = only_if_parts _ (call.Acquire caller lock) c h in
-    let empty = zeros (ltb caller 8) word payload said.0 in
-    subst (λ (d : Call). HasFields d kind.Acquire lock word payload caller) said.1
-    (record { kind_is = refl; lock_is = refl; word_is = empty.1; payload_is = empty.2; caller_is = refl })
-fields_back kind.Release lock word payload caller c h =
-    let said = only_if_parts _ (call.Release caller lock) c h in
-    let empty = zeros (ltb caller 8) word payload said.0 in
-    subst (λ (d : Call). HasFields d kind.Release lock word payload caller) said.1
-    (record { kind_is = refl; lock_is = refl; word_is = empty.1; payload_is = empty.2; caller_is = refl })
-fields_back kind.Phase lock word payload caller c h =
-    let said = only_if_parts _ (call.Phase payload) c h in
-    let empty = zeros (eqb caller 8) lock word said.0 in
-    subst (λ (d : Call). HasFields d kind.Phase lock word payload caller) said.1
-    (record { kind_is = refl; lock_is = empty.1; word_is = empty.2; payload_is = refl; caller_is = sym (eqb-true caller 8 empty.0) })
-fields_back kind.Settle lock word payload caller c h =
-    let said = only_if_parts _ call.Settle c h in
-    let parts = and_parts (eqb caller 8) (eqb lock 0 && (eqb word 0 && eqb payload 0)) said.0 in
-    let empty = zeros (eqb lock 0) word payload parts.1 in
-    subst (λ (d : Call). HasFields d kind.Settle lock word payload caller) said.1
-    (record { kind_is = refl; lock_is = sym (eqb-true lock 0 empty.0); word_is = empty.1; payload_is = empty.2; caller_is = sym (eqb-true caller 8 parts.0) })
+fields_back kind.Load lock word payload caller c h = grind arith
+fields_back kind.Store lock word payload caller c h = grind arith
+fields_back kind.Evict lock word payload caller c h = grind arith
+fields_back kind.Acquire lock word payload caller c h = grind arith
+fields_back kind.Release lock word payload caller c h = grind arith
+fields_back kind.Phase lock word payload caller c h = grind arith
+fields_back kind.Settle lock word payload caller c h = grind arith
 
 -- so many bytes from the start
 pub part_take : (bytes : List ℕ) (size : ℕ) → size ≤ length bytes → part bytes 0 size ≡ take size bytes
 part_take bytes zero h = refl
-part_take [] (suc size) h = let no_way : ⊥ = omega arith in absurd no_way
+part_take [] (suc size) h = grind arith
 part_take (b ∷ bs) (suc size) h = ap (λ (ds : List ℕ). b ∷ ds) (part_tail b bs 0 size ∙ part_take bs size (omega arith))
   where
     part_tail : (b : ℕ) (bs : List ℕ) (place size : ℕ) → part (b ∷ bs) (suc place) size ≡ part bs place size
@@ -157,16 +73,16 @@ row letter lock word payload caller = letter ∷ lock ∷ (word ++ (payload ++ (
 pub spelled_back : (bytes : List ℕ) (c : Call) → length bytes ≡ 13 → AllBelowBase 256 bytes → spelled bytes ≡ Some c → bytes ≡ record_bytes c
 spelled_back bytes c long under h = go (kind_by (get_or bytes 0 0)) refl h
   where
-    go : (o : Option Kind) → kind_by (get_or bytes 0 0) ≡ o → spelled_by o (get_or bytes 1 0) (field bytes 2 2) (field bytes 4 8) (get_or bytes 12 0) ≡ Some c → bytes ≡ record_bytes c
-    go None e is = let z : ◌≡◌ {A = ℕ} 0 1 = cc in let no_way : ⊥ = omega arith in absurd no_way
+    go : (o : Option Kind) → kind_by (get_or bytes 0 0) ≡ o → spelled_by o (get_or bytes 1 0) (field w16 bytes 2) (field w64 bytes 4) (get_or bytes 12 0) ≡ Some c → bytes ≡ record_bytes c
+    go None e is = grind arith
     go (Some k) e is =
-        let has = fields_back k (get_or bytes 1 0) (field bytes 2 2) (field bytes 4 8) (get_or bytes 12 0) c is in
-        let letter : get_or bytes 0 0 ≡ letter_of (kind_of c) = kind_back (get_or bytes 0 0) k e ∙ ap letter_of (sym has.kind_is) in
-        let word : part bytes 2 2 ≡ big_endian 2 (word_of c) = sym (field_back bytes 2 2 under) ∙ ap (big_endian 2) (sym has.word_is) in
-        let payload : part bytes 4 8 ≡ big_endian 8 (payload_of c) = sym (field_back bytes 4 8 under) ∙ ap (big_endian 8) (sym has.payload_is) in
-        let lock : get_or bytes 1 0 ≡ lock_of c = sym has.lock_is in
-        let caller : get_or bytes 12 0 ≡ caller_of c = sym has.caller_is in
+        let has = fields_back k (get_or bytes 1 0) (field w16 bytes 2) (field w64 bytes 4) (get_or bytes 12 0) c is in
+        let letter : get_or bytes 0 0 ≡ letter_of (kind_of c) = kind_back (get_or bytes 0 0) k e ∙ ap letter_of (sym has.0) in
+        let word : part bytes 2 2 ≡ to_be_bytes w16 (word_of c) = sym (field_back_2 bytes 2 under) ∙ ap (to_be_bytes w16) (sym has.2) in
+        let payload : part bytes 4 8 ≡ to_be_bytes w64 (payload_of c) = sym (field_back_8 bytes 4 under) ∙ ap (to_be_bytes w64) (sym has.3) in
+        let lock : get_or bytes 1 0 ≡ lock_of c = sym has.1 in
+        let caller : get_or bytes 12 0 ≡ caller_of c = sym has.4 in
         let cut : bytes ≡ part bytes 0 13 = sym (take_all 13 bytes (omega arith)) ∙ sym (part_take bytes 13 (omega arith)) in
-        let same : row (get_or bytes 0 0) (get_or bytes 1 0) (part bytes 2 2) (part bytes 4 8) (get_or bytes 12 0) ≡ row (letter_of (kind_of c)) (lock_of c) (big_endian 2 (word_of c)) (big_endian 8 (payload_of c)) (caller_of c) =
+        let same : row (get_or bytes 0 0) (get_or bytes 1 0) (part bytes 2 2) (part bytes 4 8) (get_or bytes 12 0) ≡ row (letter_of (kind_of c)) (lock_of c) (to_be_bytes w16 (word_of c)) (to_be_bytes w64 (payload_of c)) (caller_of c) =
         λ i. row (letter i) (lock i) (word i) (payload i) (caller i) in
         cut ∙ same

@@ -1,11 +1,11 @@
 -- A job as bytes: the contents, 16 bytes, and then 13 bytes for each call. Assumes nothing.
 use Rattle.std.specs.Prelude.{ℕ, ◌+◌, ◌*◌, ◌^◌, ◌<◌, Bool, true, ◌&&◌, List, [], ◌∷◌, ◌++◌, length, nat_le, nat_lt}
-use Rattle.std.specs.List.{flat_map}
+use Rattle.std.specs.Int.{w16, w32, w64, to_be_bytes}
+use Rattle.std.specs.List.{flat_map, list_all}
 use Rattle.call.specs.Calls.{caller_of, kind_of, letter_of}
 use Rattle.call.specs.Figures.{Five}
 use Rattle.call.specs.declared.call.Call.{Call}
 use Rattle.call.specs.declared.call.Call.TheVariants as call
-use Rattle.job.specs.Bytes.{big_endian}
 
 -- the lock that a call names; 0 where it names none
 abbrev pub lock_of : Call → ℕ
@@ -42,15 +42,15 @@ abbrev pub record_bytes : Call → List ℕ
 record_bytes c =
     letter_of (kind_of c)
     ∷ lock_of c
-    ∷ (big_endian 2 (word_of c) ++ (big_endian 8 (payload_of c) ++ (caller_of c ∷ [])))
+    ∷ (to_be_bytes w16 (word_of c) ++ (to_be_bytes w64 (payload_of c) ++ (caller_of c ∷ [])))
 
 -- the contents of a job: cores, slots, words, strip length, two zero bytes, allowance, number of records
 abbrev pub contents : Five → ℕ → List ℕ
 contents f records =
     f.cores
     ∷ f.slots
-    ∷ (big_endian 2 f.words
-    ++ (big_endian 2 f.strip ++ (0 ∷ 0 ∷ (big_endian 4 f.allowance ++ big_endian 4 records))))
+    ∷ (to_be_bytes w16 f.words
+    ++ (to_be_bytes w16 f.strip ++ (0 ∷ 0 ∷ (to_be_bytes w32 f.allowance ++ to_be_bytes w32 records))))
 
 -- the job of these figures and calls
 abbrev pub encode : Five → List Call → List ℕ
@@ -77,8 +77,7 @@ by_lawful_core (call.Phase plan) = true
 by_lawful_core call.Settle = true
 
 abbrev pub all_lawful : List Call → Bool
-all_lawful [] = true
-all_lawful (c ∷ cs) = by_lawful_core c && all_lawful cs
+all_lawful cs = list_all by_lawful_core cs
 
 -- whether calls can be encoded into so many bytes: there are at most 4,608, their cores are lawful, and they have room
 abbrev pub encodable : List Call → ℕ → Bool

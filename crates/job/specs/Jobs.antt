@@ -1,6 +1,6 @@
 -- What a job that was opened holds: its figures or its fault, its calls, and those that are still to be read.
 -- Assumes nothing.
-use Rattle.std.specs.Prelude.{◌≡◌, ℕ, List, [], ◌∷◌, drop, Some, None, Ok, Err, Option, Result}
+use Rattle.std.specs.Prelude.{◌≡◌, ℕ, List, [], ◌∷◌, Some, None, Ok, Err, Option, Result}
 use Rattle.call.specs.Figures.{Five, figures}
 use Rattle.call.specs.declared.figures.Figures.{Figures}
 use Rattle.call.specs.declared.call.Call.{Call}
@@ -20,11 +20,11 @@ verdict_of j = numbers j.verdict
 
 -- all its calls
 abbrev pub calls_of : Job → List Call
-calls_of j = calls j.records (drop 16 j.bytes.now)
+calls_of j = calls j.records.now
 
 -- the calls that are still to be read
 abbrev pub rest : Job → List Call
-rest j = drop j.next (calls_of j)
+rest j = calls j.left.now
 
 -- the first of some calls
 abbrev pub first : List Call → Option Call

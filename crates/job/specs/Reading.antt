@@ -1,6 +1,8 @@
 -- What the bytes of a job say: the first fault, or the figures and the calls that its records spell. Assumes nothing.
-use Rattle.std.specs.Prelude.{ℕ, zero, suc, ◌+◌, ◌*◌, Bool, true, false, cond, ◌&&◌, List, [], ◌++◌, length, take, drop, Some, None, Ok, Err, Option, Result, ◌==◌, nat_le, nat_lt, slice_index}
+use Rattle.std.specs.Prelude.{ℕ, ◌+◌, ◌*◌, Bool, true, false, cond, ◌&&◌, List, [], ◌∷◌, ◌++◌, length, drop, Some, None, Ok, Err, Option, Result, ◌==◌, nat_le, nat_lt, slice_index}
+use Rattle.std.specs.Int.{w16, w32, w64}
 use Rattle.std.specs.Option.{option_to_list}
+use Rattle.std.specs.Simd.{first_chunks}
 use Rattle.call.specs.Figures.{Five, five, checked}
 use Rattle.call.specs.declared.call.Call.{Call}
 use Rattle.call.specs.declared.call.Call.TheVariants as call
@@ -56,15 +58,19 @@ spelled_by (Some k) lock word payload caller = spelled_as k lock word payload ca
 -- the call that the 13 bytes of a record spell, if they have its layout
 abbrev pub spelled : List ℕ → Option Call
 spelled bytes =
-    spelled_by (kind_by (slice_index bytes 0)) (slice_index bytes 1) (field bytes 2 2) (field bytes 4 8) (slice_index bytes 12)
+    spelled_by (kind_by (slice_index bytes 0)) (slice_index bytes 1) (field w16 bytes 2) (field w64 bytes 4) (slice_index bytes 12)
 
 -- the figures that stand in the contents
 abbrev pub job_figures : List ℕ → Five
-job_figures bytes = five (slice_index bytes 0) (slice_index bytes 1) (field bytes 2 2) (field bytes 4 2) (field bytes 8 4)
+job_figures bytes = five (slice_index bytes 0) (slice_index bytes 1) (field w16 bytes 2) (field w16 bytes 4) (field w32 bytes 8)
 
 -- the number of records that stands there
 abbrev pub job_records : List ℕ → ℕ
-job_records bytes = field bytes 12 4
+job_records bytes = field w32 bytes 12
+
+-- the records of a job: so many, 13 bytes each, past the contents
+abbrev pub records_of : List ℕ → List (List ℕ)
+records_of bytes = first_chunks 13 (job_records bytes) (drop 16 bytes)
 
 -- a fault, or what comes after it
 abbrev pub unless_figures : Result Five FigureFault → Option JobFault → Option JobFault
@@ -79,16 +85,15 @@ abbrev pub unless : Option JobFault → Option JobFault → Option JobFault
 unless None later = later
 unless (Some e) later = Some e
 
--- the first of so many records, from a place on, that is against its layout
-abbrev pub records_fault : ℕ → ℕ → List ℕ → Option JobFault
-records_fault zero place body = None
-records_fault (suc n) place body =
-    unless_spelled (spelled (take 13 body)) (fault.Record place) (records_fault n (place + 13) (drop 13 body))
+-- the first of records, from a place on, that is against its layout
+abbrev pub records_fault : ℕ → List (List ℕ) → Option JobFault
+records_fault place [] = None
+records_fault place (r ∷ rs) = unless_spelled (spelled r) (fault.Record place) (records_fault (place + 13) rs)
 
--- the calls that so many records spell, in order
-abbrev pub calls : ℕ → List ℕ → List Call
-calls zero body = []
-calls (suc n) body = option_to_list (spelled (take 13 body)) ++ calls n (drop 13 body)
+-- the calls that records spell, in order
+abbrev pub calls : List (List ℕ) → List Call
+calls [] = []
+calls (r ∷ rs) = option_to_list (spelled r) ++ calls rs
 
 -- the contents are too short, or their figures are refused
 abbrev pub figures_fault : List ℕ → Option JobFault
@@ -99,14 +104,14 @@ figures_fault bytes =
 -- the two bytes past the figures are not zero, or there are too many records or not so many
 abbrev pub count_fault : List ℕ → Option JobFault
 count_fault bytes =
-    cond (field bytes 6 2 == 0)
+    cond (field w16 bytes 6 == 0)
     (cond (nat_le (job_records bytes) 4608 && length bytes == 16 + 13 * job_records bytes) None (Some fault.Length))
     (Some fault.Reserved)
 
 -- the first fault of a job; none where it is accepted
 abbrev pub job_fault : List ℕ → Option JobFault
 job_fault bytes =
-    unless (figures_fault bytes) (unless (count_fault bytes) (records_fault (job_records bytes) 16 (drop 16 bytes)))
+    unless (figures_fault bytes) (unless (count_fault bytes) (records_fault 16 (records_of bytes)))
 
 abbrev pub none : Option JobFault → Bool
 none None = true
@@ -118,7 +123,7 @@ accepted bytes = none (job_fault bytes)
 
 -- the calls that a job spells, in the order of its records
 abbrev pub job_calls : List ℕ → List Call
-job_calls bytes = calls (job_records bytes) (drop 16 bytes)
+job_calls bytes = calls (records_of bytes)
 
 -- what a job says: its figures and its calls
 pub record Says : Type 0 where

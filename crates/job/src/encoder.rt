@@ -1,5 +1,5 @@
 //! The encoder: from figures and calls to the bytes of a job.
-ghost use Rattle.std.specs.Prelude.{◌≡◌, ◌+◌, ◌*◌, ◌≤◌, true, ◌++◌, length, take, drop, if◌then◌else◌, Some, None, Ok, OnSome};
+ghost use Rattle.std.specs.Prelude.{◌≡◌, ◌+◌, ◌*◌, ◌≤◌, true, ◌++◌, length, drop, if◌then◌else◌, Some, None, Ok, OnSome};
 ghost use Rattle.std.specs.List.{flat_map, AllByRecursion};
 ghost use Rattle.call.specs.Calls.{caller_of, kind_of, letter_of};
 ghost use Rattle.call.specs.Figures.{figures as numbers_of};
@@ -7,28 +7,28 @@ ghost use Rattle.job.specs.Encoding.{lock_of, word_of, payload_of, record_bytes,
 ghost use Rattle.job.specs.Encoding.{encode as encoding, LawfulCall};
 ghost use Rattle.job.specs.Reading.{reading, says};
 
+use crate::layout::Record;
 use call::{Call, Figures};
 
-// Letter, lock, word and payload of a call's record; what the call does not use is zero.
-fn fields_of(call: Call) -> (u8, u8, u16, u64)
-    ensures { result ≡ (letter_of (kind_of call), lock_of call, word_of call, payload_of call) }
+// Lock, word and payload of a call's record; what the call does not use is zero.
+fn fields_of(call: Call) -> (u8, u16, u64)
+    ensures { result ≡ (lock_of call, word_of call, payload_of call) }
 {
     match call {
-        Call::Load(_, word) => (b'L', 0, word, 0),
-        Call::Store(_, word, value) => (b'S', 0, word, value as u64),
-        Call::Evict(_, word) => (b'E', 0, word, 0),
-        Call::Acquire(_, lock) => (b'A', lock, 0, 0),
-        Call::Release(_, lock) => (b'R', lock, 0, 0),
-        Call::Phase(plan) => (b'P', 0, 0, plan),
-        Call::Settle => (b'T', 0, 0, 0),
+        Call::Load(_, word) | Call::Evict(_, word) => (0, word, 0),
+        Call::Store(_, word, value) => (0, word, u64::from(value)),
+        Call::Acquire(_, lock) | Call::Release(_, lock) => (lock, 0, 0),
+        Call::Phase(plan) => (0, 0, plan),
+        Call::Settle => (0, 0, 0),
     }
 }
 
 // The record of a call.
-fn record_of(call: Call) -> [u8; 13]
+fn record_of(call: Call) -> Record
     ensures { result ≡ record_bytes call }
 {
-    let (letter, lock, word, payload) = fields_of(call);
+    let letter = call.kind().letter() as u8;
+    let (lock, word, payload) = fields_of(call);
     let [hi, lo] = word.to_be_bytes();
     let [a, b, c, d, e, f, g, h] = payload.to_be_bytes();
     [letter, lock, hi, lo, a, b, c, d, e, f, g, h, call.caller()]
@@ -68,13 +68,8 @@ fn by_lawful_core(call: Call) -> bool
     ensures lawful { result ≡ true → LawfulCall call }
 {
     match call {
-        Call::Load(core, _) => core < 8,
-        Call::Store(core, _, _) => core < 8,
-        Call::Evict(core, _) => core < 8,
-        Call::Acquire(core, _) => core < 8,
-        Call::Release(core, _) => core < 8,
-        Call::Phase(_) => true,
-        Call::Settle => true,
+        Call::Phase(_) | Call::Settle => true,
+        _ => call.caller() < 8,
     }
 }
 
@@ -83,33 +78,29 @@ fn all_lawful(calls: &[Call]) -> bool
     ensures value { result ≡ all_lawful calls.now }
     ensures lawful { result ≡ true → AllByRecursion LawfulCall calls.now }
 {
-    for call in calls {
-        if !by_lawful_core(*call) {
-            return false;
-        }
-    }
-    true
+    calls.iter().all(|call| by_lawful_core(*call))
 }
 
-// Writes the records of calls, one after another, past the contents.
+// Writes the records of calls, one after another.
 fn write_records(calls: &[Call], out: &mut [u8])
-    requires { 16 + 13 * length calls.now ≤ length out.old }
-    ensures { out.new ≡ take 16 out.old ++ (flat_map record_bytes calls.now ++ drop (16 + 13 * length calls.now) out.old) }
+    requires { 13 * length calls.now ≤ length out.old }
+    ensures { out.new ≡ flat_map record_bytes calls.now ++ drop (13 * length calls.now) out.old }
 {
     for (i, call) in calls.iter().enumerate() {
-        let at = 16 + 13 * i;
+        let at = 13 * i;
         out[at..at + 13].copy_from_slice(&record_of(*call));
     }
 }
 
-// Writes a whole job into the first bytes of `out`.
+// Writes a whole job into the first bytes of `out`: the contents, and the records past them.
 fn write_job(figures: &Figures, calls: &[Call], out: &mut [u8])
     requires { (length calls.now ≤ 4608) × (16 + 13 * length calls.now ≤ length out.old) }
     ensures after { out.new ≡ encoding (numbers_of figures.now) calls.now ++ drop (16 + 13 * length calls.now) out.old }
     ensures reads { AllByRecursion LawfulCall calls.now → reading (encoding (numbers_of figures.now) calls.now) ≡ Ok (says (numbers_of figures.now) calls.now) }
 {
-    write_records(calls, out);
-    out[0..16].copy_from_slice(&contents_of(figures, calls.len() as u32));
+    let (head, body) = out.split_at_mut(16);
+    head.copy_from_slice(&contents_of(figures, calls.len() as u32));
+    write_records(calls, body);
 }
 
 /// Writes the job of these figures and calls into the first bytes of `out`, leaves the bytes past it as they were, and gives

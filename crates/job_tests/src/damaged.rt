@@ -18,30 +18,23 @@ const CALLS: [Call; 7] = [
 // The job's length: the contents and seven records.
 const SIZE: usize = 107;
 
-// What a job that is accepted tells: all zeros.
-const ACCEPTED: FaultTold = FaultTold {
-    number: 0,
-    place: 0,
-    inner: 0,
-};
+// What a job that is accepted tells.
+const ACCEPTED: Option<FaultTold> = None;
 
-fn told(bytes: &[u8]) -> FaultTold {
-    match Job::open(bytes).figures() {
-        Ok(_) => ACCEPTED,
-        Err(fault) => fault.told(),
-    }
+fn told(bytes: &[u8]) -> Option<FaultTold> {
+    Some(Job::open(bytes).figures().err()?.told())
 }
 
-fn fault(number: u8, place: u16, inner: u8) -> FaultTold {
-    FaultTold {
+fn fault(number: u8, place: u16, inner: u8) -> Option<FaultTold> {
+    Some(FaultTold {
         number,
         place,
         inner,
-    }
+    })
 }
 
 // The job: figures 2, 4, 8, 4 and 10, and the calls.
-fn sound(rt: &impl Abort) -> Result<[u8; 107], Fail> {
+fn sound(rt: &impl Abort) -> Result<[u8; SIZE], Fail> {
     let mut bytes = [0u8; SIZE];
     let figures = Figures::check(2, 4, 8, 4, 10)?;
     assert_eq!(rt; encode(&figures, &CALLS, &mut bytes), Some(SIZE));
@@ -49,7 +42,7 @@ fn sound(rt: &impl Abort) -> Result<[u8; 107], Fail> {
 }
 
 // What the job tells with another byte at a place.
-fn told_with(rt: &impl Abort, bytes: &[u8; 107], place: usize, byte: u8) -> FaultTold {
+fn told_with(rt: &impl Abort, bytes: &[u8; SIZE], place: usize, byte: u8) -> Option<FaultTold> {
     let mut damaged = *bytes;
     assert!(rt; place < damaged.len());
     damaged[place] = byte;
@@ -111,20 +104,20 @@ fn contents(rt: HostRuntime) -> Result<(), Fail> {
 #[test]
 fn unused_bytes(rt: HostRuntime) -> Result<(), Fail> {
     let bytes = sound(&rt)?;
-    // by record: first and last byte, of those past the letter, that have to be zero, in two runs
+    // by record: the bytes, of those past the letter, that have to be zero, in two runs
     let table = [
-        (1, 1, 4, 11),
-        (1, 1, 4, 7),
-        (1, 1, 4, 11),
-        (2, 11, 2, 11),
-        (2, 11, 2, 11),
-        (1, 3, 1, 3),
-        (1, 11, 1, 11),
+        (1..=1, 4..=11),
+        (1..=1, 4..=7),
+        (1..=1, 4..=11),
+        (2..=11, 2..=11),
+        (2..=11, 2..=11),
+        (1..=3, 1..=3),
+        (1..=11, 1..=11),
     ];
-    for (index, (a, b, c, d)) in table.iter().enumerate() {
+    for (index, (one, other)) in table.iter().enumerate() {
         let start = 16 + 13 * index;
         for offset in 1..12usize {
-            let unused = *a <= offset && offset <= *b || *c <= offset && offset <= *d;
+            let unused = one.contains(&offset) || other.contains(&offset);
             let expected = if unused {
                 fault(23, start as u16, 0)
             } else {
@@ -139,7 +132,7 @@ fn unused_bytes(rt: HostRuntime) -> Result<(), Fail> {
 #[test]
 fn callers_and_letters(rt: HostRuntime) -> Result<(), Fail> {
     let bytes = sound(&rt)?;
-    for index in 0..7usize {
+    for index in 0..CALLS.len() {
         let start = 16 + 13 * index;
         let refused = fault(23, start as u16, 0);
         let core = if index < 5 { ACCEPTED } else { refused };

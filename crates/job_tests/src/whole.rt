@@ -32,10 +32,13 @@ fn read_back(rt: HostRuntime) -> Result<(), Fail> {
     assert_eq!(rt; read.strip(), 256);
     assert_eq!(rt; read.allowance(), 1_000_000);
     for call in calls {
-        assert_eq!(rt; job.next_call(), Some(call));
+        assert_eq!(rt; job.next(), Some(call));
     }
-    assert_eq!(rt; job.next_call(), None);
-    assert_eq!(rt; job.next_call(), None);
+    assert_eq!(rt; job.next(), None);
+    assert_eq!(rt; job.next(), None);
+    for (read, call) in Job::open(&bytes[0..107]).zip(calls) {
+        assert_eq!(rt; read, call);
+    }
     Ok(())
 }
 
@@ -47,7 +50,7 @@ fn no_records(rt: HostRuntime) -> Result<(), Fail> {
     let mut job = Job::open(&bytes);
     assert!(rt; job.figures().is_ok());
     assert_eq!(rt; job.records(), 0);
-    assert_eq!(rt; job.next_call(), None);
+    assert_eq!(rt; job.next(), None);
     Ok(())
 }
 

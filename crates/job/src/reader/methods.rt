@@ -1,13 +1,14 @@
 //! How a job is opened, and how its calls are read one after another.
-ghost use Rattle.std.specs.Prelude.{◌≡◌, ◌+◌, ◌*◌, ◌≤◌, length, drop, IfOk, Some, None, Ok, MatchResult};
+ghost use Rattle.std.specs.Prelude.{◌≡◌, ◌≤◌, length, drop, IfOk, Some, None, Ok, MatchResult};
+ghost use Rattle.std.specs.Iterator.{YieldsFirst, MakesProgress, item_count};
 ghost use Rattle.call.specs.Figures.{figures, checked};
-ghost use Rattle.job.specs.Reading.{figures_fault, count_fault, records_fault, job_figures, job_records, job_fault, reading, calls};
+ghost use Rattle.job.specs.Reading.{figures_fault, count_fault, records_fault, job_figures, records_of, job_fault, reading, calls};
 ghost use Rattle.job.specs.Encoding.{encode};
 ghost use Rattle.job.specs.Jobs.{numbers, verdict_of, calls_of, rest, first, figures_read, calls_read, Encoded};
 ghost use Rattle.job.specs.Laws.{ReadsBack, EncodesAgain};
 
 use super::Job;
-use crate::layout::spelled_call;
+use crate::layout::{Record, spelled_call};
 use call::{Call, Figures, JobFault};
 
 // The figures of a job, checked.
@@ -42,55 +43,46 @@ fn figures_of(bytes: &[u8]) -> Result<Figures, JobFault>
     Ok(Figures::check(*cores, *slots, words, strip, allowance)?)
 }
 
-// The number of records of a job: it stands in the contents, past two zero bytes, and the job is as long as it says.
-fn count_of(bytes: &[u8]) -> Result<u16, JobFault>
+// The records of a job: their number stands in the contents, past two zero bytes, and the job is as long as it says.
+fn records_of(bytes: &[u8]) -> Result<&[Record], JobFault>
     requires { 16 ≤ length bytes.now }
-    ensures { MatchResult result (λ n. (count_fault bytes.now ≡ None) × (n ≡ job_records bytes.now) × (n ≤ 4608) × (length bytes.now ≡ 16 + 13 * n)) (λ e. count_fault bytes.now ≡ Some e) }
+    ensures { MatchResult result (λ records. (count_fault bytes.now ≡ None) × (records.now ≡ records_of bytes.now) × (length records.now ≤ 4608)) (λ e. count_fault bytes.now ≡ Some e) }
 {
     if u16::from_be_bytes([bytes[6], bytes[7]]) != 0 {
         return Err(JobFault::Reserved);
     }
-    let records = u32::from_be_bytes([bytes[12], bytes[13], bytes[14], bytes[15]]);
-    if records > 4_608 || bytes.len() != 16 + 13 * records as usize {
+    let count = u32::from_be_bytes([bytes[12], bytes[13], bytes[14], bytes[15]]);
+    if count > 4_608 || bytes.len() != 16 + 13 * count as usize {
         return Err(JobFault::Length);
     }
-    Ok(records as u16)
+    let (records, _) = bytes[16..].as_chunks::<13>();
+    Ok(records)
 }
 
 // The first record that is against its layout.
-fn check_records(bytes: &[u8], records: u16) -> Result<(), JobFault>
-    requires { (length bytes.now ≡ 16 + 13 * records) × (records ≤ 4608) }
-    ensures { MatchResult result (λ _. records_fault records 16 (drop 16 bytes.now) ≡ None) (λ e. records_fault records 16 (drop 16 bytes.now) ≡ Some e) }
+fn check_records(records: &[Record]) -> Result<(), JobFault>
+    requires { length records.now ≤ 4608 }
+    ensures { MatchResult result (λ _. records_fault 16 records.now ≡ None) (λ e. records_fault 16 records.now ≡ Some e) }
 {
-    for i in 0..records {
-        let at = 16 + 13 * i;
-        let start = at as usize;
-        if spelled_call(&bytes[start..start + 13]).is_none() {
-            return Err(JobFault::Record(at));
-        }
+    match records
+        .iter()
+        .position(|record| spelled_call(record).is_none())
+    {
+        Some(index) => Err(JobFault::Record(16 + 13 * index as u16)),
+        None => Ok(()),
     }
-    Ok(())
 }
 
-// The figures of a job and the number of its records, or its first fault.
-fn first_fault(bytes: &[u8]) -> Result<(Figures, u16), JobFault>
-    ensures value { MatchResult result (λ p. (job_fault bytes.now ≡ None) × (figures p.0 ≡ job_figures bytes.now) × (p.1 ≡ job_records bytes.now) × (p.1 ≤ 4608) × (length bytes.now ≡ 16 + 13 * p.1)) (λ e. job_fault bytes.now ≡ Some e) }
-    ensures len { IfOk result (λ p. length (calls p.1 (drop 16 bytes.now)) ≡ p.1) }
+// Checks a whole job: its figures and its records, or its first fault. What it finds in a job that is accepted encodes to the
+// job again.
+fn check(bytes: &[u8]) -> Result<(Figures, &[Record]), JobFault>
+    ensures value { MatchResult result (λ p. (job_fault bytes.now ≡ None) × (figures p.0 ≡ job_figures bytes.now) × (p.1.now ≡ records_of bytes.now) × (length p.1.now ≤ 4608)) (λ e. job_fault bytes.now ≡ Some e) }
+    ensures encoded { IfOk result (λ p. bytes.now ≡ encode (figures p.0) (calls p.1.now)) }
 {
     let figures = figures_of(bytes)?;
-    let records = count_of(bytes)?;
-    check_records(bytes, records)?;
+    let records = records_of(bytes)?;
+    check_records(records)?;
     Ok((figures, records))
-}
-
-// Checks a whole job. What it finds in a job that is accepted encodes to the job again.
-fn check(bytes: &[u8]) -> Result<(Figures, u16), JobFault>
-    ensures value { MatchResult result (λ p. (job_fault bytes.now ≡ None) × (figures p.0 ≡ job_figures bytes.now) × (p.1 ≡ job_records bytes.now) × (p.1 ≤ 4608) × (length bytes.now ≡ 16 + 13 * p.1)) (λ e. job_fault bytes.now ≡ Some e) }
-    ensures len { IfOk result (λ p. length (calls p.1 (drop 16 bytes.now)) ≡ p.1) }
-    ensures encoded { IfOk result (λ p. bytes.now ≡ encode (figures p.0) (calls p.1 (drop 16 bytes.now))) }
-    ensures law { ReadsBack × EncodesAgain }
-{
-    first_fault(bytes)
 }
 
 impl<'a> Job<'a> {
@@ -104,17 +96,15 @@ impl<'a> Job<'a> {
         ensures law { ReadsBack × EncodesAgain }
     {
         match check(bytes) {
-            Ok(found) => Job {
-                bytes,
-                verdict: Ok(found.0),
-                records: found.1,
-                next: 0,
+            Ok((figures, records)) => Job {
+                verdict: Ok(figures),
+                records,
+                left: records,
             },
             Err(fault) => Job {
-                bytes,
                 verdict: Err(fault),
-                records: 0,
-                next: 0,
+                records: &[],
+                left: &[],
             },
         }
     }
@@ -127,35 +117,31 @@ impl<'a> Job<'a> {
     }
 
     /// How many calls the job has, those that were read included; 0 of a job that is refused.
+    #[tactic(auto, using(crate::proofs::Records::length_calls))]
     pub fn records(&self) -> u16
         ensures { result ≡ length (calls_of self.now) }
     {
-        self.records
+        self.records.len() as u16
     }
+}
 
-    // The call at the cursor, and what is left past it.
-    fn call_here(&self) -> Option<Call>
-        ensures value { result ≡ first (rest self.now) }
-        ensures past { drop (self.now.next + 1) (calls_of self.now) ≡ drop 1 (rest self.now) }
-        ensures end { self.now.next ≡ self.now.records → rest self.now ≡ drop 1 (rest self.now) }
-    {
-        if self.next == self.records {
-            return None;
-        }
-        let start = 16 + 13 * self.next as usize;
-        spelled_call(&self.bytes[start..start + 13])
-    }
+impl Iterator for Job<'_> {
+    type Item = Call;
+
+    ghost next_gives = { YieldsFirst rest };
+
+    ghost remaining = { item_count rest };
 
     /// Reads the next call; none where all were read.
-    pub fn next_call(&mut self) -> Option<Call>
+    fn next(&mut self) -> Option<Call>
         ensures value { result ≡ first (rest self.old) }
         ensures after { rest self.new ≡ drop 1 (rest self.old) }
         ensures same { (verdict_of self.new ≡ verdict_of self.old) × (calls_of self.new ≡ calls_of self.old) }
+        ensures steps { YieldsFirst rest self.old result self.new }
+        ensures goes { MakesProgress (λ _. Unit {0}) (item_count rest) self.old result self.new }
     {
-        let call = self.call_here();
-        if self.next < self.records {
-            self.next += 1;
-        }
-        call
+        let (record, left) = self.left.split_first()?;
+        self.left = left;
+        spelled_call(record)
     }
 }

@@ -1,28 +1,23 @@
-use Rattle.std.proofs.Common.{true, false, sym, refl, ◌∙◌, subst}
-use Rattle.std.proofs.ByRecursion.{All-more}
-use Rattle.std.proofs.lemmas.List.{at_drop_all, take_all}
-use Rattle.std.proofs.lemmas.Bool.{both_ways}
-use Rattle.std.specs.List.{AllByRecursion}
-use Rattle.job.specs.Encoding.{all_lawful, LawfulCall}
-use Rattle.job.proofs.Writing.{lawful_step}
+use Rattle.std.proofs.Common.{◌≡◌, ℕ, ◌<◌, false, length, subst, arith, rules}
+use borrow.Author.Tests.{tests}
+use Rattle.std.proofs.ByRecursion.{All-from_get_or}
+use Rattle.std.proofs.lemmas.Iterator.{YieldsList-from_slice, cases_from_all}
+use Rattle.std.proofs.lemmas.Iterator.Search.{all_from_yields_List}
+use Rattle.std.specs.Bool.{MatchBool}
+use Rattle.std.specs.List.{AllWithin, HoldsAt}
+use Rattle.call.specs.declared.call.Call.{Call}
+use Rattle.call.specs.declared.call.Call.TheVariants.{Settle}
+use Rattle.job.specs.Encoding.{by_lawful_core, LawfulCall}
 use Rattle.job.proofs.encoder.all_lawful.Goals as goal
 
-pub returns-then-not-by_lawful_core : goal.returns-then-not-by_lawful_core
-returns-then-not-by_lawful_core c =
-    record {
-      value = sym (lawful_step c.args.calls.now c.loop-call.call-index _ false c.loop-call-test.true c.if-not-by_lawful_core.ensures.value) ∙ c.loop-call.invariant.0;
-      lawful = λ no_way. absurd (both_ways false refl no_way);
-    }
+pub returns-clause-value : goal.returns-clause-value
+returns-clause-value c =
+    all_from_yields_List by_lawful_core _ _ c.all.result c.all.ensures.ran (YieldsList-from_slice c.args.calls.now cc) (λ x b q k. search (rules, tests))
 
-pub loop-call-preserved : goal.loop-call-preserved
-loop-call-preserved c = (
-  sym (lawful_step c.args.calls.now c.loop-call.call-index _ true c.loop-call-test.true c.if-not-by_lawful_core.ensures.value) ∙ c.loop-call.invariant.0,
-  All-more LawfulCall c.args.calls.now c.loop-call.call-index _ c.loop-call-test.true c.loop-call.invariant.1 (c.if-not-by_lawful_core.ensures.lawful refl),
-)
-
-pub returns : goal.returns
-returns c =
-    record {
-      value = sym (at_drop_all all_lawful c.args.calls.now c.loop-call.call-index c.loop-call-test.false) ∙ c.loop-call.invariant.0;
-      lawful = λ h. subst (AllByRecursion LawfulCall) (take_all c.loop-call.call-index c.args.calls.now c.loop-call-test.false) c.loop-call.invariant.1;
-    }
+pub returns-clause-lawful : goal.returns-clause-lawful
+returns-clause-lawful c = λ h.
+    let cs = c.args.calls.now in
+    let unlawful : Call → Type 0 = λ d. by_lawful_core d ≡ false in
+    let found = cases_from_all _ _ c.all.result LawfulCall unlawful c.all.ensures.ran (YieldsList-from_slice cs cc) (λ x q k. search (rules, tests)) (λ x q k. search (rules, tests)) in
+    let each : AllWithin LawfulCall cs 0 (length cs) = subst (λ b. MatchBool b (AllWithin LawfulCall cs 0 (length cs)) ((k : ℕ) × (k < length cs) × HoldsAt unlawful cs k)) h found in
+    All-from_get_or LawfulCall cs Settle (λ i l. each i Settle (omega arith) l)

@@ -1,13 +1,18 @@
-use Rattle.std.proofs.Common.{sym, ◌∙◌}
-use Rattle.job.proofs.Records.{fault_here, fault_past}
+use Rattle.std.proofs.Common.{sym, ap, ◌∙◌, rules}
+use borrow.Author.Tests.{tests}
+use Rattle.std.proofs.lemmas.Iterator.{YieldsList-from_slice}
+use Rattle.std.proofs.lemmas.Iterator.Search.{position_from_yields_List}
+use Rattle.job.proofs.Records.{unlawful, fault_of, first_unlawful}
 use Rattle.job.proofs.reader.methods.check_records.Goals as goal
 
-pub returns-then-is_none : goal.returns-then-is_none
-returns-then-is_none c =
-    sym c.loop-i.invariant
-    ∙ fault_here c.args.bytes.now c.args.records c.loop-i.i c.spelled_call.result c.loop-i-test.true c.spelled_call.ensures c.if-is_none.ensures
+pub returns-in-Some : goal.returns-in-Some
+returns-in-Some c =
+    let rs = c.args.records.now in
+    let at = position_from_yields_List unlawful _ _ c.position.result c.position.ensures.ran (YieldsList-from_slice rs cc) (λ x b q k. search (rules, tests)) in
+    first_unlawful rs 16 ∙ ap (fault_of 16) (sym at ∙ c.in-Some.is)
 
-pub loop-i-preserved : goal.loop-i-preserved
-loop-i-preserved c =
-    sym (fault_past c.args.bytes.now c.args.records c.loop-i.i c.spelled_call.result c.loop-i-test.true c.spelled_call.ensures c.if-is_none.ensures)
-    ∙ c.loop-i.invariant
+pub returns-in-None : goal.returns-in-None
+returns-in-None c =
+    let rs = c.args.records.now in
+    let at = position_from_yields_List unlawful _ _ c.position.result c.position.ensures.ran (YieldsList-from_slice rs cc) (λ x b q k. search (rules, tests)) in
+    first_unlawful rs 16 ∙ ap (fault_of 16) (sym at ∙ c.in-None.is)

@@ -1,0 +1,14 @@
+use Rattle.std.proofs.Common.{rules}
+use Rattle.job.proofs.Records.{within_more, call_read}
+use Rattle.job.proofs.reader.methods.JobIterator.next.Goals as goal
+
+pub invariant_of-self-clause-within : goal.invariant_of-self-clause-within
+invariant_of-self-clause-within c =
+    let job = c.args.self.now in
+    within_more job.records.now job.left.now c.in_ok-record.left.now c.in_ok-record.record.now job.within c.in_ok-record.ensures.cases.0
+
+pub returns : goal.returns
+returns c =
+    let job = c.args.self.now in
+    let read = call_read job.records.now job.left.now c.in_ok-record.left.now c.in_ok-record.record.now job.within c.in_ok-record.ensures.cases.0 c.spelled_call.result job.lawful c.spelled_call.ensures in
+    record { value = read.0; after = read.1; same = search rules; steps = read.2; goes = search rules }
