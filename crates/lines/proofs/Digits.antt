@@ -10,10 +10,6 @@ use Rattle.lines.proofs.Writing.{written_byte}
 pub one_digit : (n : ℕ) → n < 10 → length (decimal n) ≡ 1
 one_digit n h = ap length (decimal_digit n h)
 
--- any other has one digit more than its tenth
-pub digit_more : (n : ℕ) → 10 ≤ n → n < 2 ^ 32 → length (decimal n) ≡ length (decimal (n / 10)) + 1
-digit_more n h fits = ap length (decimal_step n h (omega arith)) ∙ length_push (decimal (n / 10)) (48 + n % 10)
-
 -- how many digits a number has at the most
 pub two_digits : (n : ℕ) → n < 100 → length (decimal n) ≤ 2
 two_digits n h = length-decimal-le 2 n (omega arith) h (omega arith)
@@ -39,25 +35,3 @@ middle_field n stop fits = simp length_push (omega (arith, five_digits n (omega 
 
 pub long_field : (n stop : ℕ) → n < 2 ^ 32 → length (decimal n ++ (stop ∷ [])) ≤ 11
 long_field n stop fits = simp length_push (omega (arith, ten_digits n (omega arith)))
-
--- a turn of the loop: the last digit of what is left is stored at its place, and one digit less is left
-pub last_digit : (out : List ℕ) (at i n : ℕ) → 10 ≤ n → n < 2 ^ 32 → i ≡ at + length (decimal n) → i ≤ length out → written (set out (i - 1) (48 + n % 10)) at (decimal (n / 10)) ≡ written out at (decimal n)
-unfolding written
-last_digit out at i n h fits is room =
-    let front = decimal (n / 10) in
-    let digit = 48 + n % 10 in
-    let more = digit_more n h fits in
-    let here : at + length front ≡ i - 1 = omega arith in
-    let next : i - 1 + 1 ≡ at + length (decimal n) = omega arith in
-    let before : take at (set out (i - 1) digit) ≡ take at out = take-set-le at out (i - 1) digit (omega arith) in
-    let past : drop (at + length front) (set out (i - 1) digit) ≡ digit ∷ drop (at + length (decimal n)) out =
-    ap (λ (k : ℕ). drop k (set out (i - 1) digit)) here
-    ∙ drop-set out (i - 1) digit (omega arith)
-    ∙ ap (λ (k : ℕ). digit ∷ drop k out) next in
-    (λ j. before j ++ (front ++ past j))
-    ∙ ap (λ (t : List ℕ). take at out ++ t) (sym (append_assoc front (digit ∷ []) (drop (at + length (decimal n)) out)))
-    ∙ ap (λ (t : List ℕ). take at out ++ (t ++ drop (at + length (decimal n)) out)) (sym (decimal_step n h (omega arith)))
-
--- the first digit: what is left is below ten
-pub first_digit : (out : List ℕ) (at n : ℕ) → n < 10 → at < length out → set out at (48 + n) ≡ written out at (decimal n)
-first_digit out at n h room = written_byte out at (48 + n) room ∙ ap (written out at) (sym (decimal_digit n h))

@@ -1,12 +1,14 @@
 -- Texts written over bytes: one byte, a part of a slice, and one text after another, which is the two as one text.
 -- Assumes nothing.
-use Rattle.std.proofs.Common.{◌≡◌, ℕ, ◌+◌, ◌<◌, ◌≤◌, List, [], ◌∷◌, ◌++◌, length, get_or, take, drop, set, sym, refl, ap, ◌∙◌, add_assoc, zero-add, add-one}
+use Rattle.std.proofs.Common.{◌≡◌, ℕ, ◌+◌, ◌<◌, ◌≤◌, List, [], ◌∷◌, ◌++◌, length, get_or, take, drop, set, sym, refl, ap, ◌∙◌, add_assoc, zero-add, add-one, take-append-drop, arith}
 use borrow.Rule.Slice.PartMut.{put_mid}
-use Rattle.std.proofs.lemmas.List.{append_assoc, length-append, length-take-le, take_at, drop_at, drop-drop, set_split, flat_map_more, take_more}
+use Rattle.std.proofs.lemmas.List.{append_assoc, length-append, length-take-le, take_at, drop_at, drop-drop, drop-append-le, set_split, flat_map_more, take_more}
 use Rattle.std.specs.List.{flat_map}
 use Rattle.call.specs.declared.answer.AnswerRecord.{AnswerRecord}
 use Rattle.lines.specs.Lines.{answer_line}
 use Rattle.lines.specs.Texts.{written, Wrote}
+use Rattle.lines.specs.Writing.{Added}
+use Rattle.lines.specs.declared.writer.Writer.{Writer}
 
 -- a byte that is stored is a text of one byte
 pub written_byte : (bytes : List ℕ) (at b : ℕ) → at < length bytes → set bytes at b ≡ written bytes at (b ∷ [])
@@ -60,10 +62,27 @@ from_first {before} {text} whole =
     let long = zero-add (length text) in
     (whole.past ∙ long, whole.bytes ∙ ap (λ (n : ℕ). text ++ drop n before) long)
 
--- nothing written leaves the bytes as they are
-pub nothing_written : (bytes : List ℕ) → Wrote bytes 0 [] bytes 0
+-- a text in the first bytes of a buffer's front stands in the first bytes of the buffer
+pub in_front : (out front after text : List ℕ) (n : ℕ) → front ≡ take n out → n ≤ length out → length text ≤ n → after ≡ text ++ drop (length text) front → after ++ drop n out ≡ text ++ drop (length text) out
+in_front out front after text n is room fits wrote =
+    let long : length front ≡ n = ap length is ∙ length-take-le n out room in
+    ap (λ (xs : List ℕ). xs ++ drop n out) wrote
+    ∙ append_assoc text (drop (length text) front) (drop n out)
+    ∙ ap (λ (xs : List ℕ). text ++ xs)
+    (sym (drop-append-le (length text) front (drop n out) (omega arith))
+    ∙ ap (λ (xs : List ℕ). drop (length text) (xs ++ drop n out)) is
+    ∙ ap (drop (length text)) (take-append-drop n out))
+
+-- a writer that adds nothing is as it was
+pub nothing_added : (a : Writer) → Added a [] a
 unfolding written
-nothing_written bytes = record { bytes = refl; past = refl }
+nothing_added a =
+    let none : a.end + 0 ≡ a.end = omega arith in
+    record {
+      wrote = record { bytes = sym (take-append-drop (a.end + 0) a.out.now) ∙ ap (λ n. take n a.out.now ++ drop (a.end + 0) a.out.now) none; past = sym none };
+      same = refl;
+      room = refl;
+    }
 
 -- the lines of one more record
 pub lines_more : (records : List AnswerRecord) (i : ℕ) (a : AnswerRecord) → i < length records → a ≡ get_or records i a → flat_map answer_line (take i records) ++ answer_line a ≡ flat_map answer_line (take (i + 1) records)
@@ -71,3 +90,8 @@ lines_more records i a l is =
     flat_map_more answer_line [] (take i records) a
     ∙ (ap (λ (x : AnswerRecord). flat_map answer_line (take i records ++ (x ∷ []))) is
     ∙ ap (flat_map answer_line) (sym (take_more records i a l)))
+
+-- a writer that adds a text and then another adds both as one text
+pub added_both : {a b c : Writer} {s t : List ℕ} → a.end ≤ length a.out.now → Added a s b → Added b t c → Added a (s ++ t) c
+added_both room one two =
+    record { wrote = and_then room one.wrote two.wrote; same = two.same ∙ one.same; room = two.room ∙ one.room }

@@ -9,11 +9,10 @@ ghost use Rattle.lines.specs.Lines.{answer_line, fault_line, has_room};
 ghost use Rattle.lines.specs.Texts.{Wrote};
 
 use call::{AnswerRecord, JobFault};
-use told::{put_fault, put_record};
+use writer::Writer;
 
-mod number;
-mod texts;
 mod told;
+mod writer;
 
 /// Writes the line of an answer record into the first bytes of a field and gives its length: caller, letter, refusal (0 if
 /// accepted), small answer, value and mark, with single spaces and a newline. Different records that calls can give never
@@ -24,7 +23,9 @@ pub fn write_line(field: &mut [u8; 48], answered: AnswerRecord) -> usize
     ensures most { result ≤ 31 }
     ensures apart { LinesApart }
 {
-    put_record(field, 0, answered)
+    let mut writer = Writer { out: field, end: 0 };
+    writer.answer(answered);
+    writer.end
 }
 
 // Writes the lines of some records one after another, and gives their length. There is room for a field for each of them.
@@ -32,11 +33,9 @@ fn put_lines(out: &mut [u8], records: &[AnswerRecord]) -> usize
     requires { 48 * length records.now ≤ length out.old }
     ensures { Wrote out.old 0 (flat_map answer_line records.now) out.new result }
 {
-    let mut end = 0;
-    for answered in records {
-        end = put_record(out, end, *answered);
-    }
-    end
+    let mut writer = Writer { out, end: 0 };
+    writer.answers(records);
+    writer.end
 }
 
 /// Writes the lines of some records one after another into the first bytes of a buffer, and gives their length; later bytes keep what
@@ -61,7 +60,9 @@ pub fn write_fault(field: &mut [u8; 48], fault: JobFault) -> usize
     ensures apart { FaultsApart }
     ensures never_both { NeverBoth }
 {
-    put_fault(field, fault)
+    let mut writer = Writer { out: field, end: 0 };
+    writer.fault(fault);
+    writer.end
 }
 
 /// Writes the line of a job's fault into the first bytes of a buffer, and gives its length; later bytes keep what they held. Where the
@@ -70,10 +71,8 @@ pub fn write_fault_line(out: &mut [u8], fault: JobFault) -> Option<usize>
     ensures value { result ≡ (if has_room (length out.old) 1 then Some (length (fault_line fault)) else None) }
     ensures after { out.new ≡ (if has_room (length out.old) 1 then fault_line fault ++ drop (length (fault_line fault)) out.old else out.old) }
 {
-    if out.len() / 48 < 1 {
-        return None;
-    }
-    Some(put_fault(out, fault))
+    let field = out.first_chunk_mut::<48>()?;
+    Some(write_fault(field, fault))
 }
 
 // Lines as they stand in a field that was full of dots.
@@ -86,16 +85,9 @@ mod tests {
 
     // The field begins with the line, whose length is the one given, and is full of dots past it.
     fn holds(field: &[u8; 48], size: usize, line: &[u8]) -> bool {
-        if size != line.len() {
-            return false;
-        }
-        for (i, byte) in field.iter().enumerate() {
-            let wanted = if i < line.len() { line[i] } else { b'.' };
-            if *byte != wanted {
-                return false;
-            }
-        }
-        true
+        size == line.len()
+            && field.starts_with(line)
+            && field.iter().skip(size).all(|byte| *byte == b'.')
     }
 
     fn prints(caller: u8, kind: Kind, answer: Answer, line: &[u8]) -> bool {

@@ -1,9 +1,9 @@
 use Rattle.lines.proofs.Apart.{lines_apart}
 use Rattle.lines.proofs.Writing.{from_first}
-use Rattle.std.proofs.Common.{arith}
 use Rattle.lines.proofs.write_line.Goals as goal
 
-pub returns : goal.returns
-returns c =
-    let wrote = from_first c.put_record.ensures.wrote in
-    record { value = wrote.0; after = wrote.1; most = omega (arith, c.put_record.ensures.most); apart = lines_apart }
+pub returns-clause-after : goal.returns-clause-after
+returns-clause-after c = (from_first c.answer.ensures.added.wrote).1
+
+pub returns-clause-apart : goal.returns-clause-apart
+returns-clause-apart c = lines_apart

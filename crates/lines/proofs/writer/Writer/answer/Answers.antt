@@ -3,18 +3,14 @@ use Rattle.call.specs.declared.answer.Answer.{Answer}
 use Rattle.call.specs.declared.answer.Answer.TheVariants.{Loaded, Stored, Done, Refused}
 use Rattle.lines.specs.Laws.{InRange}
 use Rattle.lines.proofs.Lengths.{line_most}
-use Rattle.lines.proofs.told.put_record.Goals as goal
+use Rattle.lines.proofs.writer.Writer.answer.Goals as goal
 
 -- the numbers of the answer fit their types
-in_range : (c : goal.After-slice_known-2-1) (a : Answer) → c.args.answered.answer ≡ a → InRange a
+in_range : (c : goal.After-numbers) (a : Answer) → c.args.answered.answer ≡ a → InRange a
 in_range c (Loaded word source) is = (search rules, search rules)
 in_range c (Stored answer mark) is = search rules
 in_range c (Done small) is = search rules
 in_range c (Refused refusal) is = λ core access race. search rules
 
-pub returns : goal.returns
-returns c =
-    record {
-      wrote = c.put_answer.ensures;
-      most = line_most c.args.answered (omega arith) (in_range c c.args.answered.answer refl);
-    }
+pub returns-clause-most : goal.returns-clause-most
+returns-clause-most c = line_most c.args.answered (omega arith) (in_range c c.args.answered.answer refl)
