@@ -22,7 +22,7 @@ const SIZE: usize = 107;
 const ACCEPTED: Option<FaultTold> = None;
 
 fn told(bytes: &[u8]) -> Option<FaultTold> {
-    Some(Job::open(bytes).figures().err()?.told())
+    Some(Job::open(bytes).figures().err()?.into())
 }
 
 fn fault(number: u8, place: u16, inner: u8) -> Option<FaultTold> {

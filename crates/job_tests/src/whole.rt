@@ -1,5 +1,5 @@
 //! Jobs that are accepted, from none to the most records, and what is read back from them.
-use call::{Call, Figures};
+use call::{Call, FaultTold, Figures};
 use job::{Job, encode};
 use std::test::Fail;
 
@@ -85,7 +85,7 @@ fn most_records(rt: HostRuntime) -> Result<(), Fail> {
     let Err(fault) = job.figures() else {
         return Err(Fail::new("4,609 records are accepted"));
     };
-    assert_eq!(rt; fault.told().number, 22);
+    assert_eq!(rt; FaultTold::from(fault).number, 22);
     Ok(())
 }
 

@@ -1,10 +1,11 @@
 -- Lines are apart: the same line has the same numbers, field by field, and these determine the record or the fault. A fault's
 -- line begins with a letter and a record's with a digit. Assumes nothing.
-use Rattle.std.proofs.Common.{◌≡◌, ℕ, ◌^◌, ◌<◌, List, [], length, get_or, drop, decimal, sym, refl, ap, ◌∙◌, arith}
+use Rattle.std.proofs.Common.{◌≡◌, ℕ, ◌^◌, ◌<◌, List, [], length, get_or, drop, decimal, sym, refl, ap, ◌∙◌, arith, Ok, Err, Result}
 use Rattle.std.proofs.lemmas.Fmt.{decimal_nonempty}
 use Rattle.call.specs.Told.{told, fault, answer_told, fault_told}
 use Rattle.call.specs.declared.answer.Answer.{Answer}
-use Rattle.call.specs.declared.answer.Answer.TheVariants.{Loaded, Stored, Done, Refused}
+use Rattle.call.specs.declared.refusal.Refusal.{Refusal}
+use Rattle.call.specs.declared.answer.Answer.TheVariants.{Loaded, Stored, Done}
 use Rattle.call.specs.declared.answer.Told.{Told}
 use Rattle.lines.specs.Laws.{InRange, LinesApart, FaultsApart, NeverBoth}
 use Rattle.lines.specs.Lines.{numbers_line}
@@ -16,13 +17,13 @@ use Rattle.lines.proofs.ReadBack.{lead, digits_back, same_number}
 abbrev Readable : Told → Type 0
 Readable t = (t.refusal < 2 ^ 64) × (t.small < 2 ^ 64) × (t.value < 2 ^ 64) × (t.mark < 2 ^ 64)
 
-readable : (a : Answer) → InRange a → Readable (answer_told a)
-readable (Loaded word source) fits =
+readable : (a : Result Answer Refusal) → InRange a → Readable (answer_told a)
+readable (Ok (Loaded word source)) fits =
     let marked = mark_most word.mark in
     (omega arith, omega (arith, fits.1), omega (arith, fits.0), omega arith)
-readable (Stored answer mark) fits = let marked = mark_most mark in (omega arith, omega arith, omega arith, omega arith)
-readable (Done small) fits = (omega arith, omega arith, omega arith, omega arith)
-readable (Refused refusal) fits =
+readable (Ok (Stored answer mark)) fits = let marked = mark_most mark in (omega arith, omega arith, omega arith, omega arith)
+readable (Ok (Done small)) fits = (omega arith, omega arith, omega arith, omega arith)
+readable (Err refusal) fits =
     let most = refusal_most refusal fits in
     (omega (arith, most.0), omega (arith, most.1), omega (arith, most.2), omega (arith, most.3))
 

@@ -1,13 +1,13 @@
 -- What a case tells determines it: a kind is found again from its letter, an answer from its kind and its numbers, and a
 -- fault from its numbers. Assumes nothing.
-use Rattle.std.proofs.Common.{◌≡◌, ℕ, ◌-◌, cond, eqb, [], ◌∷◌, get_or, refl, ap, ◌∙◌}
+use Rattle.std.proofs.Common.{◌≡◌, ℕ, ◌-◌, cond, eqb, [], ◌∷◌, get_or, refl, ap, ◌∙◌, Ok, Err, Result}
 use Rattle.word.proofs.Marks.{same_mark, number_mark_at}
 use Rattle.word.specs.Marks.{number, mark_at}
 use Rattle.word.specs.declared.mark.Mark.{Mark}
 use Rattle.call.specs.Calls.{letter_of}
 use Rattle.call.specs.Told.{answer_told, refusal_told, fault_told}
 use Rattle.call.specs.declared.answer.Answer.{Answer}
-use Rattle.call.specs.declared.answer.Answer.TheVariants.{Loaded, Stored, Done, Refused}
+use Rattle.call.specs.declared.answer.Answer.TheVariants.{Loaded, Stored, Done}
 use Rattle.call.specs.declared.answer.Told.{Told}
 use Rattle.call.specs.declared.call.Kind.{Kind}
 use Rattle.call.specs.declared.call.Kind.TheVariants as kind
@@ -55,10 +55,10 @@ accepted_by kind.Phase t = Done t.small
 accepted_by kind.Settle t = Done t.small
 
 -- the answer to a kind of call that tells these numbers
-abbrev pub answer_by : Kind → Told → Answer
-answer_by k t = cond (eqb t.refusal 0) (accepted_by k t) (Refused (refusal_by t t.refusal))
+abbrev pub answer_by : Kind → Told → Result Answer Refusal
+answer_by k t = cond (eqb t.refusal 0) (Ok (accepted_by k t)) (Err (refusal_by t t.refusal))
 
-refused_again : (k : Kind) (r : Refusal) → answer_by k (refusal_told r) ≡ Refused r
+refused_again : (k : Kind) (r : Refusal) → answer_by k (refusal_told r) ≡ Err r
 refused_again k NoCore = refl
 refused_again k OutsideBoard = refl
 refused_again k Waiting = refl
@@ -77,20 +77,20 @@ refused_again k Owned = refl
 mark_again : (m : Mark) → mark_at (number m) ≡ m
 mark_again m = same_mark (mark_at (number m)) m (number_mark_at (number m) m.law)
 
-pub answer_again : (k : Kind) (a : Answer) → Answers k a → answer_by k (answer_told a) ≡ a
-answer_again k (Loaded word source) is =
-    ap (λ (l : Kind). accepted_by l (answer_told (Loaded word source))) is
-    ∙ ap (λ (m : Mark). Loaded (record { value = word.value; mark = m }) source) (mark_again word.mark)
-answer_again k (Stored answer mark) is =
-    ap (λ (l : Kind). accepted_by l (answer_told (Stored answer mark))) is ∙ ap (Stored answer) (mark_again mark)
-answer_again kind.Load (Done small) is = absurd (is.0 refl)
-answer_again kind.Store (Done small) is = absurd (is.1 refl)
-answer_again kind.Evict (Done small) is = refl
-answer_again kind.Acquire (Done small) is = refl
-answer_again kind.Release (Done small) is = refl
-answer_again kind.Phase (Done small) is = refl
-answer_again kind.Settle (Done small) is = refl
-answer_again k (Refused refusal) is = refused_again k refusal
+pub answer_again : (k : Kind) (a : Result Answer Refusal) → Answers k a → answer_by k (answer_told a) ≡ a
+answer_again k (Ok (Loaded word source)) is =
+    ap (λ (l : Kind). Ok (accepted_by l (answer_told (Ok (Loaded word source))))) is
+    ∙ ap (λ (m : Mark). Ok (Loaded (record { value = word.value; mark = m }) source)) (mark_again word.mark)
+answer_again k (Ok (Stored answer mark)) is =
+    ap (λ (l : Kind). Ok (accepted_by l (answer_told (Ok (Stored answer mark))))) is ∙ ap (λ (m : Mark). Ok (Stored answer m)) (mark_again mark)
+answer_again kind.Load (Ok (Done small)) is = absurd (is.0 refl)
+answer_again kind.Store (Ok (Done small)) is = absurd (is.1 refl)
+answer_again kind.Evict (Ok (Done small)) is = refl
+answer_again kind.Acquire (Ok (Done small)) is = refl
+answer_again kind.Release (Ok (Done small)) is = refl
+answer_again kind.Phase (Ok (Done small)) is = refl
+answer_again kind.Settle (Ok (Done small)) is = refl
+answer_again k (Err refusal) is = refused_again k refusal
 
 -- the broken row of the figures with a number: a list in the order of the numbers, from 14
 abbrev figure_by : ℕ → FigureFault

@@ -1,5 +1,5 @@
 -- How wide the numbers are that a record and a fault tell, and how long their lines can be. Assumes nothing.
-use Rattle.std.proofs.Common.{◌≡◌, ℕ, ◌+◌, ◌^◌, ◌<◌, ◌≤◌, length, decimal, refl, inl, inr, arith}
+use Rattle.std.proofs.Common.{◌≡◌, ℕ, ◌+◌, ◌^◌, ◌<◌, ◌≤◌, length, decimal, refl, inl, inr, arith, Ok, Err, Result}
 use Rattle.std.proofs.lemmas.List.{length-append}
 use Rattle.word.proofs.Marks.{lawful_tells}
 use Rattle.word.specs.Marks.{number}
@@ -7,7 +7,7 @@ use Rattle.word.specs.declared.mark.Mark.{Mark}
 use Rattle.call.specs.Calls.{letter_of}
 use Rattle.call.specs.Told.{answer_told, refusal_told, figure_number, figure_place, fault_told}
 use Rattle.call.specs.declared.answer.Answer.{Answer}
-use Rattle.call.specs.declared.answer.Answer.TheVariants.{Loaded, Stored, Done, Refused}
+use Rattle.call.specs.declared.answer.Answer.TheVariants.{Loaded, Stored, Done}
 use Rattle.call.specs.declared.answer.AnswerRecord.{AnswerRecord}
 use Rattle.call.specs.declared.answer.Told.{Told}
 use Rattle.call.specs.declared.fault.FaultTold.{FaultTold}
@@ -34,7 +34,7 @@ mark_most m =
 abbrev Few : Told → Type 0
 Few t = (t.refusal < 100) × (t.small < 2 ^ 8) × (t.value < 10) × (t.mark < 10)
 
-pub refusal_most : (r : Refusal) → InRange (Refused r) → Few (refusal_told r)
+pub refusal_most : (r : Refusal) → InRange (Err r) → Few (refusal_told r)
 refusal_most NoCore fits = (omega arith, omega arith, omega arith, omega arith)
 refusal_most OutsideBoard fits = (omega arith, omega arith, omega arith, omega arith)
 refusal_most Waiting fits = (omega arith, omega arith, omega arith, omega arith)
@@ -51,23 +51,23 @@ refusal_most LockHeld fits = (omega arith, omega arith, omega arith, omega arith
 refusal_most Owned fits = (omega arith, omega arith, omega arith, omega arith)
 
 -- the digits of all that an answer tells: one, three, ten and seven of a load
-told_most : (a : Answer) → InRange a → length (decimal (answer_told a).refusal) + length (decimal (answer_told a).small) + length (decimal (answer_told a).value) + length (decimal (answer_told a).mark) ≤ 21
-told_most (Loaded word source) fits =
+told_most : (a : Result Answer Refusal) → InRange a → length (decimal (answer_told a).refusal) + length (decimal (answer_told a).small) + length (decimal (answer_told a).value) + length (decimal (answer_told a).mark) ≤ 21
+told_most (Ok (Loaded word source)) fits =
     let none = one_digit 0 (omega arith) in
     let from = three_digits source (omega (arith, fits.1)) in
     let held = ten_digits word.value (omega (arith, fits.0)) in
     let marked = seven_digits (number word.mark) (mark_most word.mark) in
     omega arith
-told_most (Stored answer mark) fits =
+told_most (Ok (Stored answer mark)) fits =
     let none = one_digit 0 (omega arith) in
     let from = three_digits answer (omega arith) in
     let marked = seven_digits (number mark) (mark_most mark) in
     omega arith
-told_most (Done small) fits =
+told_most (Ok (Done small)) fits =
     let none = one_digit 0 (omega arith) in
     let count = five_digits small (omega arith) in
     omega arith
-told_most (Refused refusal) fits =
+told_most (Err refusal) fits =
     let most = refusal_most refusal fits in
     let why = two_digits (refusal_told refusal).refusal most.0 in
     let core = three_digits (refusal_told refusal).small (omega (arith, most.1)) in

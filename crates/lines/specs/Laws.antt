@@ -1,9 +1,10 @@
 -- What a reader of lines can rely on: no two records that calls can give have one line, no two faults have, and no fault
 -- has the line of a record. Assumes nothing.
-use Rattle.std.specs.Prelude.{◌≡◌, ℕ, ◌^◌, ◌<◌, ◌≢◌}
+use Rattle.std.specs.Prelude.{◌≡◌, ℕ, ◌^◌, ◌<◌, ◌≢◌, Ok, Err, Result}
 use Rattle.call.specs.Told.{fault_told}
 use Rattle.call.specs.declared.answer.Answer.{Answer}
-use Rattle.call.specs.declared.answer.Answer.TheVariants.{Loaded, Stored, Done, Refused}
+use Rattle.call.specs.declared.refusal.Refusal.{Refusal}
+use Rattle.call.specs.declared.answer.Answer.TheVariants.{Loaded, Stored, Done}
 use Rattle.call.specs.declared.answer.AnswerRecord.{AnswerRecord}
 use Rattle.call.specs.declared.call.Kind.{Kind}
 use Rattle.call.specs.declared.call.Kind.TheVariants.{Load, Store}
@@ -13,18 +14,18 @@ use Rattle.call.specs.declared.refusal.Refusal.TheVariants.{Race}
 use Rattle.lines.specs.Lines.{answer_line, fault_line}
 
 -- the numbers of an answer are as wide as their types; only a race among the refusals has one, the earlier core
-abbrev pub InRange : Answer → Type 0
-InRange (Loaded word source) = (word.value < 2 ^ 32) × (source < 2 ^ 8)
-InRange (Stored answer mark) = answer < 2 ^ 8
-InRange (Done small) = small < 2 ^ 16
-InRange (Refused refusal) = (core : ℕ) (access : Access) → refusal ≡ Race core access → core < 2 ^ 8
+abbrev pub InRange : Result Answer Refusal → Type 0
+InRange (Ok (Loaded word source)) = (word.value < 2 ^ 32) × (source < 2 ^ 8)
+InRange (Ok (Stored answer mark)) = answer < 2 ^ 8
+InRange (Ok (Done small)) = small < 2 ^ 16
+InRange (Err refusal) = (core : ℕ) (access : Access) → refusal ≡ Race core access → core < 2 ^ 8
 
 -- an accepted load gives a word, an accepted store its mark, any other accepted call a number; any call may be refused
-abbrev pub Answers : Kind → Answer → Type 0
-Answers kind (Loaded word source) = kind ≡ Load
-Answers kind (Stored answer mark) = kind ≡ Store
-Answers kind (Done small) = (kind ≢ Load) × (kind ≢ Store)
-Answers kind (Refused refusal) = Unit {0}
+abbrev pub Answers : Kind → Result Answer Refusal → Type 0
+Answers kind (Ok (Loaded word source)) = kind ≡ Load
+Answers kind (Ok (Stored answer mark)) = kind ≡ Store
+Answers kind (Ok (Done small)) = (kind ≢ Load) × (kind ≢ Store)
+Answers kind (Err refusal) = Unit {0}
 
 -- the records that calls can give
 abbrev pub Possible : AnswerRecord → Type 0

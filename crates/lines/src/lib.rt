@@ -90,7 +90,7 @@ mod tests {
             && field.iter().skip(size).all(|byte| *byte == b'.')
     }
 
-    fn prints(caller: u8, kind: Kind, answer: Answer, line: &[u8]) -> bool {
+    fn prints(caller: u8, kind: Kind, answer: Result<Answer, Refusal>, line: &[u8]) -> bool {
         let mut field = [b'.'; 48];
         let size = write_line(
             &mut field,
@@ -122,10 +122,10 @@ mod tests {
             mark: second,
         };
         let race = Refusal::Race(0, Access::Store);
-        assert!(rt; prints(8, Kind::Phase, Answer::Done(0), b"8 P 0 0 0 0\n"));
-        assert!(rt; prints(0, Kind::Store, Answer::Stored(1, first), b"0 S 0 1 0 1\n"));
-        assert!(rt; prints(1, Kind::Load, Answer::Refused(race), b"1 L 6 0 1 0\n"));
-        assert!(rt; prints(1, Kind::Load, Answer::Loaded(held, 2), b"1 L 0 2 7 2\n"));
+        assert!(rt; prints(8, Kind::Phase, Ok(Answer::Done(0)), b"8 P 0 0 0 0\n"));
+        assert!(rt; prints(0, Kind::Store, Ok(Answer::Stored(1, first)), b"0 S 0 1 0 1\n"));
+        assert!(rt; prints(1, Kind::Load, Err(race), b"1 L 6 0 1 0\n"));
+        assert!(rt; prints(1, Kind::Load, Ok(Answer::Loaded(held, 2)), b"1 L 0 2 7 2\n"));
         Ok(())
     }
 
@@ -143,12 +143,12 @@ mod tests {
             prints(
                 255,
                 Kind::Load,
-                Answer::Loaded(held, 255),
+                Ok(Answer::Loaded(held, 255)),
                 b"255 L 0 255 4294967295 8340032\n",
             )
         );
-        assert!(rt; prints(8, Kind::Settle, Answer::Done(65_535), b"8 T 0 65535 0 0\n"));
-        assert!(rt; prints(10, Kind::Evict, Answer::Done(100), b"10 E 0 100 0 0\n"));
+        assert!(rt; prints(8, Kind::Settle, Ok(Answer::Done(65_535)), b"8 T 0 65535 0 0\n"));
+        assert!(rt; prints(10, Kind::Evict, Ok(Answer::Done(100)), b"10 E 0 100 0 0\n"));
         Ok(())
     }
 

@@ -23,7 +23,7 @@ impl Writer<'_> {
         ensures most { length (answer_line answered) ≤ 31 }
     {
         let letter = letter_byte(answered.kind);
-        self.numbers(answered.caller, letter, answered.answer.told());
+        self.numbers(answered.caller, letter, Told::from(answered.answer));
     }
 
     // Adds the lines of some records, one after another.
@@ -54,7 +54,7 @@ impl Writer<'_> {
         requires { self.old.end + 48 ≤ length self.old.out.now }
         ensures { Added self.old (fault_line fault) self.new }
     {
-        self.refused(fault.told());
+        self.refused(FaultTold::from(fault));
     }
 
     // Adds the line of what a fault tells.

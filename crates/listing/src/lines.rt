@@ -57,7 +57,7 @@ fn told_line(heap: Global, told: FaultTold) -> Result<String, AllocError>
 pub fn fault_line(heap: Global, fault: JobFault) -> Result<String, AllocError>
     ensures { IfOk result (λ s. string_bytes s ≡ told_line (fault_told fault)) }
 {
-    told_line(heap, fault.told())
+    told_line(heap, FaultTold::from(fault))
 }
 
 // A strip with its mode in words, empty where it is read-only.
