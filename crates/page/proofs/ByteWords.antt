@@ -134,8 +134,3 @@ pub bytes_inside : (bytes : List ℕ) (k n : ℕ) (x : Word) (group : List ℕ) 
 bytes_inside bytes k n x group h eight e =
     put_is bytes k n group eight ∙ ap (put bytes k) e
     ∙ cond_below k (byte_size bytes) (put bytes k (group_bytes x)) bytes (omega (arith, length_words bytes))
-
--- a write past the last group leaves all bytes
-pub bytes_outside : (bytes : List ℕ) (k : ℕ) (x : Word) → length (byte_words bytes) ≤ k → bytes ≡ bytes_after bytes k x
-bytes_outside bytes k x h =
-    cond_above k (byte_size bytes) (put bytes k (group_bytes x)) bytes bytes (omega (arith, length_words bytes)) refl

@@ -1,5 +1,4 @@
 -- Lemmas on page stores.
-pub mod BankCalls
 pub mod BankDrain
 pub mod ByteWords
 pub mod Accesses

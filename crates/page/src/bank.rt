@@ -91,10 +91,12 @@ impl<P: PageStore> PageStore for Bank<P> {
 
     ghost bounded = { λ b. laid_at_most b.slots (P.PageStore.words b.below) (P.PageStore.bounded b.below) };
 
+    #[tactic(auto, using(crate::proofs::Slots::length_laid))]
     fn size(&self) -> u16 {
         self.below.size()
     }
 
+    #[tactic(auto, using(crate::proofs::Slots::length_laid, crate::proofs::Slots::laid_at))]
     fn read(&mut self, place: u16) -> Result<Word, Outside>
         ensures answer { result ≡ read_answer (laid self.old.slots (P.PageStore.words self.old.below)) place }
         ensures same { laid self.new.slots (P.PageStore.words self.new.below) ≡ laid self.old.slots (P.PageStore.words self.old.below) }
@@ -110,6 +112,7 @@ impl<P: PageStore> PageStore for Bank<P> {
         }
     }
 
+    #[tactic(auto, using(crate::proofs::Slots::length_laid, std::proofs::lemmas::List::set_past))]
     fn write(&mut self, place: u16, word: Word) -> Result<(), Outside>
         ensures answer { result ≡ write_answer (laid self.old.slots (P.PageStore.words self.old.below)) place }
         ensures after { laid self.new.slots (P.PageStore.words self.new.below) ≡ slice_set (laid self.old.slots (P.PageStore.words self.old.below)) place word }

@@ -36,12 +36,14 @@ impl PageStore for Bytes<'_> {
 
     ghost bounded = { λ s. bytes_at_most s.bytes.now };
 
+    #[tactic(auto, using(crate::proofs::ByteWords::length_words))]
     fn size(&self) -> u16
         ensures { result ≡ length (byte_words self.now.bytes.now) }
     {
         (self.bytes.len() / 8).min(4096) as u16
     }
 
+    #[tactic(auto, using(crate::proofs::ByteWords::length_words))]
     fn read(&mut self, place: u16) -> Result<Word, Outside>
         ensures answer { result ≡ read_answer (byte_words self.old.bytes.now) place }
         ensures same { byte_words self.new.bytes.now ≡ byte_words self.old.bytes.now }
@@ -55,6 +57,7 @@ impl PageStore for Bytes<'_> {
         Ok(Word::from(groups[place as usize]))
     }
 
+    #[tactic(auto, using(crate::proofs::ByteWords::length_words))]
     fn write(&mut self, place: u16, word: Word) -> Result<(), Outside>
         ensures answer { result ≡ write_answer (byte_words self.old.bytes.now) place }
         ensures after { byte_words self.new.bytes.now ≡ slice_set (byte_words self.old.bytes.now) place word }

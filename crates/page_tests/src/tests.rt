@@ -31,7 +31,10 @@ fn an_unlawful_mark_reads_as_blank(rt: HostRuntime) {
     let blank = word(9, 0);
     assert_eq!(rt; Word::from([0, 0, 0, 9, 0, 16, 0, 0]), blank);
     assert_eq!(rt; Word::from([0, 0, 0, 9, 0, 127, 66, 65]), blank);
-    assert_eq!(rt; Word::from([0, 0, 0, 9, 0, 127, 66, 64]), word(9, 8_340_032));
+    assert_eq!(rt;
+        Word::from([0, 0, 0, 9, 0, 127, 66, 64]),
+        word(9, 8_340_032)
+    );
 }
 
 #[test]

@@ -1,31 +1,20 @@
 -- A word is read back from the group that spells it: four bytes make up the number that they were taken from, and a
 -- lawful number, which is below 2 ^ 32, reads as its mark. Assumes nothing.
-use Rattle.std.proofs.Common.{◌≡◌, ℕ, ◌/◌, ◌^◌, ◌<◌, List, length, refl, ap, ◌∙◌, ⊎_elim, mod-eq_of_lt, div-add-mod', arith}
-use native.Mathlib.Nat.{div-div-eq-div-mul}
-use Rattle.word.proofs.Marks.{lawful_tells}
+use Rattle.std.proofs.Common.{◌≡◌, ℕ, ◌^◌, ◌<◌, List, ap, ◌∙◌, ⊎_elim, arith}
+use Rattle.std.proofs.lemmas.Nat.{from_be_bytes-to_be_bytes_4}
+use Rattle.word.proofs.Marks.{lawful_tells, mark_read_number}
 use Rattle.word.specs.Marks.{number, mark_at}
 use Rattle.word.specs.declared.mark.Mark.{Mark}
 use Rattle.word.specs.declared.word.Word.{Word}
 use Rattle.word.specs.Groups.{four_bytes, four_number, group_bytes, group_word}
-use Rattle.word.proofs.Marks.{mark_read_number}
 
 -- four bytes make up the number below 2 ^ 32 that they were taken from
 pub four_back : (n : ℕ) → n < 2 ^ 32 → four_number (four_bytes n) 0 ≡ n
-four_back n h =
-    let low = div-add-mod' n 256 in
-    let next = rw (div-div-eq-div-mul n 256 256) at (div-add-mod' (n / 256) 256) in
-    let third = rw (div-div-eq-div-mul n 65536 256) at (div-add-mod' (n / 65536) 256) in
-    let few : n / 16777216 < 256 = omega arith in
-    let high = mod-eq_of_lt few in
-    omega arith
+four_back n h = from_be_bytes-to_be_bytes_4 n h
 
 -- a mark's number is below 2 ^ 32
 pub number_lt : (m : Mark) → number m < 2 ^ 32
 number_lt m = ⊎_elim (λ blank. omega arith) (λ stored. omega arith) (lawful_tells m.number m.law)
-
--- a group has 8 bytes
-pub length_group : (x : Word) → length (group_bytes x) ≡ 8
-length_group x = refl
 
 -- a word whose value is below 2 ^ 32 is read back from its group
 pub group_back : (x : Word) (bytes : List ℕ) → bytes ≡ group_bytes x → x.value < 2 ^ 32 → group_word bytes ≡ x

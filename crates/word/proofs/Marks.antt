@@ -1,6 +1,6 @@
 -- The test of a mark's number says that the number is blank or that of some store; and a mark is its number.
 -- Assumes nothing.
-use Rattle.std.proofs.Common.{◌≡◌, ℕ, ◌/◌, ◌%◌, ◌<◌, ◌≤◌, Bool, true, false, ◌&&◌, cond, Ok, Err, Result, ap, eqb, ltb, leb, sym, refl, ◌∙◌, inl, inr, ⊎_elim, div-add-mod', arith}
+use Rattle.std.proofs.Common.{◌≡◌, ℕ, ◌/◌, ◌%◌, ◌<◌, ◌≤◌, Bool, true, false, ◌&&◌, cond, Ok, Err, ap, eqb, ltb, leb, sym, refl, ◌∙◌, inl, inr, ⊎_elim, div-add-mod', arith}
 use Rattle.std.specs.Result.{result_unwrap_or}
 use mathlib.Core.HLevel.{is_prop→PathP}
 use denote.Struct.Props.{props}

@@ -21,6 +21,7 @@ impl From<[u8; 8]> for Word {
 impl From<Word> for [u8; 8] {
     ghost from_gives = { λ word group. group ≡ group_bytes word };
 
+    #[tactic(auto, using(crate::proofs::Groups::group_back))]
     fn from(word: Word) -> [u8; 8]
         ensures value { result ≡ group_bytes word }
         ensures back { group_word result ≡ word }

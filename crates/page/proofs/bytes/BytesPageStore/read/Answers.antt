@@ -1,12 +1,7 @@
 use Rattle.std.proofs.Common.{◌/◌, List, ℕ, length, ap, ◌∙◌, arith}
 use Rattle.std.specs.Simd.{first_chunks}
-use Rattle.page.proofs.ByteWords.{length_words, read_inside}
+use Rattle.page.proofs.ByteWords.{read_inside}
 use Rattle.page.proofs.bytes.BytesPageStore.read.Goals as goal
-
-pub bounds-groups-place : goal.bounds-groups-place
-bounds-groups-place c =
-    let bytes = ap (λ (bs : List ℕ). length bs) c.as_bytes.ensures in
-    omega (arith, bytes, c.as_chunks.ensures.front_len, length_words c.args.self.now.bytes.now)
 
 pub returns-clause-answer : goal.returns-clause-answer
 returns-clause-answer c =
