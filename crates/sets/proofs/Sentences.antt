@@ -1,10 +1,12 @@
 -- The exact and the Bloom signature keep the sentences: rows that gain or lose just what their definitions say do, and words
 -- that are held by their two bits follow the bits, since a word is held where the bits are. Assumes nothing.
-use Rattle.std.proofs.Common.{◌≡◌, ℕ, ◌<◌, ◌≤◌, Bool, true, false, cond, not, ◌&&◌, ◌||◌, eqb, ltb, List, sym, refl, ap, ◌∙◌, ⊎_elim}
+use Rattle.std.proofs.Common.{◌≡◌, ℕ, ◌<◌, ◌≤◌, Bool, true, false, cond, not, ◌&&◌, ◌||◌, eqb, ltb, List, [], length, sym, refl, ap, ◌∙◌, ⊎_elim, arith}
 use Rattle.std.proofs.lemmas.Bool.{eq-eqb, ne_eqb, lt-ltb, le-ltb, cases_lt, and_from, and_parts, or_left, or_right, ltb-true}
+use Rattle.std.specs.List.{All}
 use Rattle.sets.specs.Sentences.{Sets, InRange, Put, TakenIn, Cleared, Bounded}
 use Rattle.sets.specs.Rows.{in_range, added, joined, emptied, words_put, bits_put, rows_taken_in, rows_cleared, words_of_bits, first_bit, second_bit}
 use Rattle.sets.specs.Tables.{rows_of}
+use Rattle.sets.proofs.Rows.{bit_lies}
 use Rattle.sets.proofs.Ranges.{below_cases, below_true, below_false}
 
 -- a row to which nothing of this core is added stays
@@ -155,14 +157,16 @@ bits_puts b b' c w is = ⊎_elim inside outside (below_cases c 8 w 4096)
           outside = λ _ d v. words_same b b' d (at d) v;
         }
 
--- a table of rows as long as the words' range holds nothing outside the ranges
-pub rows_bounded : (table : List ℕ) → Bounded (rows_of 64 table)
-unfolding rows_of
-rows_bounded table d v h =
-    let outer = and_parts (ltb d 8) _ h in (ltb-true d 8 outer.0, ltb-true v 4096 (and_parts (ltb v 4096) _ outer.1).0)
+-- a table of eight rows as long as the words' range holds nothing outside the ranges
+pub rows_bounded : (table : List (List ℕ)) → length table ≡ 8 → All (λ row. length row ≡ 64) table → Bounded (rows_of table)
+rows_bounded table eight wide d v h =
+    let lies = bit_lies table d v h in
+    let width = wide d [] lies.0 in
+    (omega (arith, eight, lies.0), omega (arith, width, lies.1))
 
--- words by their bits: nothing is held outside the ranges
-pub bits_bounded : (table : List ℕ) → Bounded (words_of_bits (rows_of 4 table))
-unfolding rows_of
-bits_bounded table d v h =
-    let parts = held_bits (rows_of 4 table) d v h in (ltb-true d 8 (and_parts (ltb d 8) _ parts.1).0, parts.0)
+-- words by their bits, of eight rows: nothing is held outside the ranges
+pub bits_bounded : (table : List (List ℕ)) → length table ≡ 8 → Bounded (words_of_bits (rows_of table))
+bits_bounded table eight d v h =
+    let parts = held_bits (rows_of table) d v h in
+    let lies = bit_lies table d (first_bit v) parts.1 in
+    (omega (arith, eight, lies.0), parts.0)
