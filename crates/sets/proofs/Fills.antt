@@ -27,9 +27,7 @@ range_parts a (suc m) n =
 
 -- the last bit of a number counts as its last digit
 digit_counts : (p : ℕ) → p < 2 → cond {A = ℕ} (eqb p 1) 1 0 ≡ p
-digit_counts zero h = refl
-digit_counts (suc zero) h = refl
-digit_counts (suc (suc p)) h = let never : ⊥ = omega arith in absurd never
+digit_counts p h = grind arith
 
 -- the ones of a number of k bits are its bits that are set
 pub ones_count : (k n : ℕ) → n < 2 ^ k → ones n ≡ count_by (bit n) (range_with_len 0 k)

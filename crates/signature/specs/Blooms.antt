@@ -7,7 +7,7 @@ use Rattle.std.proofs.lemmas.Bool.{ltb-true, and_parts}
 use Rattle.sets.specs.Operations.{Operations}
 use Rattle.sets.specs.Sentences.{Sets, Put, TakenIn, Cleared, Bounded}
 use Rattle.sets.specs.Rows.{in_range, first_bit, second_bit, added, bits_put, rows_taken_in, rows_cleared, words_of_bits}
-use Rattle.sets.proofs.Ranges.{chosen_holds}
+use Rattle.sets.proofs.Rows.{chosen_holds}
 use Rattle.sets.proofs.Sentences.{bits_puts, takes_in, clears, words_take_in, words_clear, bits_bounded}
 use Rattle.signature.specs.Rows as rows
 use Rattle.signature.specs.declared.bloom.Bloom.{Bloom}

@@ -6,7 +6,7 @@ use Rattle.std.proofs.lemmas.Bool.{ltb-true, and_parts}
 use Rattle.sets.specs.Operations.{Operations}
 use Rattle.sets.specs.Sentences.{Sets, Put, TakenIn, Cleared, Bounded}
 use Rattle.sets.specs.Rows.{in_range, added, words_put, rows_taken_in, rows_cleared}
-use Rattle.sets.proofs.Ranges.{chosen_holds}
+use Rattle.sets.proofs.Rows.{chosen_holds}
 use Rattle.sets.proofs.Sentences.{words_puts, takes_in, clears, rows_bounded}
 use Rattle.signature.specs.Rows as rows
 use Rattle.signature.specs.declared.exact.Exact.{Exact}

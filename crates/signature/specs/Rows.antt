@@ -12,8 +12,7 @@ use Rattle.sets.specs.Rows.{added, rows_taken_in, rows_cleared}
 use Rattle.sets.specs.Rows as rows
 use Rattle.sets.specs.Tables.{row_of, rows_of}
 use Rattle.sets.specs.Tables as tables
-use Rattle.sets.proofs.Ranges.{chosen_holds}
-use Rattle.sets.proofs.Rows.{length_joined, rows_with_bit, rows_joined, rows_emptied}
+use Rattle.sets.proofs.Rows.{chosen_holds, length_joined, rows_with_bit, rows_joined, rows_emptied}
 use Rattle.signature.specs.declared.rows.Rows.{Rows}
 
 -- a table in which one row is written keeps the width of its rows
