@@ -4,7 +4,7 @@ use Rattle.std.proofs.Common.{◌≡◌, ℕ, zero, suc, ◌+◌, ◌*◌, ◌/�
 use lib.Count.{ones, ones_step, ones-le}
 use Rattle.std.proofs.lemmas.List.Sums.{count_by-le-length, sum_by-cons, sum_by-append}
 use Rattle.std.proofs.lemmas.List.FromFn.{length-range_with_len}
-use Rattle.std.proofs.lemmas.Nat.{shr-shr, mod_below, shr_below}
+use Rattle.std.proofs.lemmas.Nat.{shr-shr, shr_below}
 use Rattle.std.specs.List.{count_by, range_with_len, sum_by}
 use Rattle.sets.specs.Fills.{bits_set}
 use Rattle.sets.specs.Tables.{bit, row_bit}
@@ -19,15 +19,8 @@ count_alike f g a b (suc n) h =
 
 -- a range in two parts
 range_parts : (a m n : ℕ) → range_with_len a (m + n) ≡ range_with_len a m ++ range_with_len (a + m) n
-range_parts a zero n = (λ i. range_with_len (sym (add-zero a) i) (zero-add n i))
-range_parts a (suc m) n =
-    let more : suc m + n ≡ suc (m + n) = omega arith in
-    let on : a + 1 + m ≡ a + suc m = omega arith in
-    ap (range_with_len a) more ∙ ap (λ xs. a ∷ xs) (range_parts (a + 1) m n ∙ ap (λ k. range_with_len (a + 1) m ++ range_with_len k n) on)
-
--- the last bit of a number counts as its last digit
-digit_counts : (p : ℕ) → p < 2 → cond {A = ℕ} (eqb p 1) 1 0 ≡ p
-digit_counts p h = grind arith
+range_parts a zero n = grind arith
+range_parts a (suc m) n = let more : suc m + n ≡ suc (m + n) = omega arith in rw more (grind (arith, range_parts (a + 1) m n))
 
 -- the ones of a number of k bits are its bits that are set
 pub ones_count : (k n : ℕ) → n < 2 ^ k → ones n ≡ count_by (bit n) (range_with_len 0 k)
@@ -36,11 +29,10 @@ ones_count (suc k) n h =
     let half : n / 2 < 2 ^ k = shr_below n k 1 (rw add-one h) in
     let shifted : (i : ℕ) → i < k → bit (n / 2) (0 + i) ≡ bit n (1 + i) =
     λ i l. ap (λ j. bit (n / 2) j) (zero-add i) ∙ ap (λ m. eqb (m % 2) 1) (shr-shr n 1 i) in
-    let last : cond {A = ℕ} (bit n 0) 1 0 ≡ n % 2 =
-    ap (λ m. cond {A = ℕ} (eqb (m % 2) 1) 1 0) (div-one n) ∙ digit_counts (n % 2) (mod_below n 2 (omega arith)) in
     let rest : ones (n / 2) ≡ count_by (bit n) (range_with_len 1 k) =
     ones_count k (n / 2) half ∙ count_alike (bit (n / 2)) (bit n) 0 1 k shifted in
-    ones_step n ∙ (λ i. sym last i + rest i) ∙ sym (sum_by-cons _ 0 (range_with_len 1 k))
+    let first : cond {A = ℕ} (bit n 0) 1 0 ≡ n % 2 = grind (arith, div-one n) in
+    ones_step n ∙ (λ i. sym first i + rest i) ∙ sym (sum_by-cons _ 0 (range_with_len 1 k))
 
 -- the ones of a row's words are the row's bits that are set
 pub row_count : (row : List ℕ) → ((k : ℕ) → k < length row → get_or row k 0 < 2 ^ 64) →

@@ -1,9 +1,8 @@
 -- The exact rows are the least that keep the sentences: where every signature's sets must hold a word, the exact ones gain it,
 -- and they gain no other. So they stay within the sets of any signature to which the same is done. Assumes nothing.
-use Rattle.std.proofs.Common.{◌≡◌, ℕ, ◌<◌, ◌≤◌, true, not, ◌&&◌, eqb, ltb, sym, ap, ◌∙◌, subst, ⊎_elim, arith}
-use Rattle.std.proofs.lemmas.Bool.{cases_eq, cases_lt, eqb-true, eqb-false, lt-ltb, le-ltb, and_parts, or_cases, not-true}
-use Rattle.sets.specs.Sentences.{Sets, InRange, OthersUnaltered, Put, TakenIn, Cleared, Within}
-use Rattle.sets.specs.Rows.{in_range, added, joined, emptied, words_put, rows_taken_in, rows_cleared}
+use Rattle.std.proofs.Common.{◌≡◌, ℕ, arith}
+use Rattle.sets.specs.Sentences.{Sets, Put, TakenIn, Cleared, Within}
+use Rattle.sets.specs.Rows.{words_put, rows_taken_in, rows_cleared}
 
 -- a put
 pub least_put : (g g' h h' : Sets) (c w : ℕ) → ((d v : ℕ) → g' d v ≡ words_put g c w d v) → Put h h' c w → Within g h → Within g' h'

@@ -1,10 +1,10 @@
 -- The exact and the Bloom signature keep the sentences: rows that gain or lose just what their definitions say do, and words
 -- that are held by their two bits follow the bits, since a word is held where the bits are. Assumes nothing.
-use Rattle.std.proofs.Common.{◌≡◌, ℕ, ◌<◌, ◌≤◌, Bool, true, false, cond, not, ◌&&◌, ◌||◌, eqb, ltb, List, [], length, sym, refl, ap, ◌∙◌, ⊎_elim, arith}
-use Rattle.std.proofs.lemmas.Bool.{eq-eqb, ne_eqb, lt-ltb, le-ltb, cases_lt, and_from, and_parts, or_left, or_right, ltb-true}
+use Rattle.std.proofs.Common.{◌≡◌, ℕ, List, [], length, arith}
+use Rattle.std.proofs.lemmas.Bool.{and_parts, ltb-true}
 use Rattle.std.specs.List.{All}
-use Rattle.sets.specs.Sentences.{Sets, InRange, Put, TakenIn, Cleared, Bounded}
-use Rattle.sets.specs.Rows.{in_range, added, joined, emptied, words_put, bits_put, rows_taken_in, rows_cleared, words_of_bits, first_bit, second_bit}
+use Rattle.sets.specs.Sentences.{Sets, Put, TakenIn, Cleared, Bounded}
+use Rattle.sets.specs.Rows.{words_put, bits_put, rows_taken_in, rows_cleared, words_of_bits, first_bit, second_bit}
 use Rattle.sets.specs.Tables.{rows_of}
 use Rattle.sets.proofs.Rows.{bit_lies}
 

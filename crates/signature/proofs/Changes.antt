@@ -13,9 +13,9 @@ use Rattle.signature.specs.declared.exact.Exact.{Exact}
 
 -- a signature whose operations keep the sentences
 module _ {S : Type 0} (ops : Operations S)
-  (puts : (s : S) (c w : ℕ) → sentence.Put (ops.holds s) (ops.holds (ops.put s c w)) c w)
-  (takes : (s : S) (c o : ℕ) → TakenIn (ops.holds s) (ops.holds (ops.take_in s c o)) c o)
-  (clears : (s : S) (c : ℕ) → Cleared (ops.holds s) (ops.holds (ops.clear s c)) c) where
+    (puts : (s : S) (c w : ℕ) → sentence.Put (ops.holds s) (ops.holds (ops.put s c w)) c w)
+    (takes : (s : S) (c o : ℕ) → TakenIn (ops.holds s) (ops.holds (ops.take_in s c o)) c o)
+    (clears : (s : S) (c : ℕ) → Cleared (ops.holds s) (ops.holds (ops.clear s c)) c) where
   -- one change keeps the exact sets within its sets
   kept_within : (e : Exact) (s : S) (x : Change) → Within (held e) (ops.holds s) → Within (held (changed exact e x)) (ops.holds (changed ops s x))
   kept_within e s (Put c w) within = least_put (held e) (held (put e c w)) (ops.holds s) (ops.holds (ops.put s c w)) c w (put_holds e c w) (puts s c w) within

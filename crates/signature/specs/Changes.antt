@@ -1,5 +1,5 @@
 -- Changes of a signature by its own operations, one and a list of them. Assumes nothing.
-use Rattle.std.specs.Prelude.{ℕ, List, fold}
+use Rattle.std.specs.Prelude.{List, fold}
 use Rattle.sets.specs.Operations.{Operations}
 use Rattle.signature.specs.declared.change.Change.{Change}
 use Rattle.signature.specs.declared.change.Change.TheVariants.{Put, TakeIn, Clear}

@@ -18,6 +18,7 @@ impl<const WIDTH: usize> Rows<WIDTH> {
     }
 
     /// Whether a bit of a core's row is set; no above core 7 and past the row's end.
+    #[tactic(auto, using(sets::proofs::Rows::rows_apart), unfolding(sets::specs::Tables::rows_of))]
     pub(crate) fn has(&self, core: u8, bit: usize) -> bool
         ensures { result ≡ bits self.now core bit }
     {
