@@ -8,13 +8,13 @@ use Rattle.rules.specs.Laws.{Unrefused}
 use Rattle.rules.specs.Runs.{Lawful, Event, History, history_of}
 use Rattle.rules.specs.Signed.{bloom, played, no_bits, zero_page}
 use Rattle.rules.proofs.Instance.{ran_of}
-use Rattle.sets.specs.Fills.{bits_from}
+use Rattle.sets.specs.Fills.{bits_set}
 use Rattle.rules.specs.Cases.{AllSay, cases, sample}
 use Rattle.rules.specs.Examples.{SamplePlays, OldCopyFetched, TwoOrders, one_order, other_order, one_history, other_history}
 use Rattle.rules.specs.Tables.{upd, upd2}
 
 pub all_cases : AllSay cases
-unfolding upd upd2 bits_from
+unfolding upd upd2 bits_set
 all_cases =
     (refl, (refl, (refl, (refl, (refl, (refl, (refl, (refl, (refl, (refl, (refl, ((refl, refl), (refl, (refl, tt))))))))))))))
 

@@ -1,73 +1,65 @@
--- The ones of a word are the bits of it that are set, and a row's 256 bits are those of its four words one after another. So the
--- fill is the sum of the four words' ones. Assumes nothing.
-use Rattle.std.proofs.Common.{◌≡◌, ℕ, zero, suc, ◌+◌, ◌*◌, ◌/◌, ◌%◌, ◌^◌, ◌<◌, Bool, cond, eqb, List, ◌∷◌, get_or, sym, refl, ap, ◌∙◌, add-zero, add_assoc, zero-add, div-one, add-one, arith}
+-- The ones of a word are the bits of it that are set, and a row's bits are those of its words one after another. So the fill of a row
+-- is the sum of its words' ones. Assumes nothing.
+use Rattle.std.proofs.Common.{◌≡◌, ℕ, zero, suc, ◌+◌, ◌*◌, ◌/◌, ◌%◌, ◌^◌, ◌<◌, ◌≤◌, Bool, cond, eqb, List, [], ◌∷◌, ◌++◌, length, get_or, sym, refl, ap, ◌∙◌, add-zero, add_assoc, zero-add, div-one, add-one, arith}
 use lib.Count.{ones, ones_step, ones-le}
-use Rattle.std.proofs.lemmas.Nat.{shr-shr, mod_below, div-mul-add, mod-mul-add, shr_below}
-use Rattle.sets.specs.Fills.{bits_from, set_count, word_fill}
-use Rattle.sets.specs.Tables.{bit, rows_of}
-use Rattle.sets.proofs.Rows.{rows_in}
+use Rattle.std.proofs.lemmas.List.Sums.{count_by-le-length, sum_by-cons, sum_by-append}
+use Rattle.std.proofs.lemmas.List.FromFn.{length-range_with_len}
+use Rattle.std.proofs.lemmas.Nat.{shr-shr, shr_below}
+use Rattle.std.specs.List.{count_by, range_with_len, sum_by}
+use Rattle.sets.specs.Fills.{bits_set}
+use Rattle.sets.specs.Tables.{bit, row_bit}
 
--- lists of equal tests are equal
-bits_alike : (f g : ℕ → Bool) (a b n : ℕ) → ((i : ℕ) → i < n → f (a + i) ≡ g (b + i)) → bits_from f a n ≡ bits_from g b n
-unfolding bits_from
-bits_alike f g a b zero h = refl
-bits_alike f g a b (suc n) h =
+-- tests that answer alike count alike
+count_alike : (f g : ℕ → Bool) (a b n : ℕ) → ((i : ℕ) → i < n → f (a + i) ≡ g (b + i)) → count_by f (range_with_len a n) ≡ count_by g (range_with_len b n)
+count_alike f g a b zero h = refl
+count_alike f g a b (suc n) h =
     let head : f a ≡ g b = ap f (sym (add-zero a)) ∙ h 0 (omega arith) ∙ ap g (add-zero b) in
-    let tail : bits_from f (a + 1) n ≡ bits_from g (b + 1) n =
-    bits_alike f g (a + 1) (b + 1) n (λ i l. ap f (add_assoc a 1 i) ∙ h (1 + i) (omega arith) ∙ ap g (sym (add_assoc b 1 i))) in
-    λ i. head i ∷ tail i
+    let tail = count_alike f g (a + 1) (b + 1) n (λ i l. ap f (add_assoc a 1 i) ∙ h (1 + i) (omega arith) ∙ ap g (sym (add_assoc b 1 i))) in
+    sum_by-cons _ a (range_with_len (a + 1) n) ∙ (λ i. cond {A = ℕ} (head i) 1 0 + tail i) ∙ sym (sum_by-cons _ b (range_with_len (b + 1) n))
 
--- a list of tests counted in two parts
-count_parts : (f : ℕ → Bool) (a m n : ℕ) → set_count (bits_from f a (m + n)) ≡ set_count (bits_from f a m) + set_count (bits_from f (a + m) n)
-unfolding bits_from
-count_parts f a zero n =
-    ap (λ k. set_count (bits_from f a k)) (zero-add n) ∙ ap (λ k. set_count (bits_from f k n)) (sym (add-zero a)) ∙ sym (zero-add _)
-count_parts f a (suc m) n =
-    let more : suc m + n ≡ suc (m + n) = omega arith in
-    let on : a + 1 + m ≡ a + suc m = omega arith in
-    ap (λ k. set_count (bits_from f a k)) more ∙
-    ap (λ k. cond {A = ℕ} (f a) 1 0 + k) (count_parts f (a + 1) m n ∙ ap (λ k. set_count (bits_from f (a + 1) m) + set_count (bits_from f k n)) on) ∙
-    sym (add_assoc (cond {A = ℕ} (f a) 1 0) (set_count (bits_from f (a + 1) m)) (set_count (bits_from f (a + suc m) n)))
-
--- the last bit of a number counts as its last digit
-digit_counts : (p : ℕ) → p < 2 → cond {A = ℕ} (eqb p 1) 1 0 ≡ p
-digit_counts zero h = refl
-digit_counts (suc zero) h = refl
-digit_counts (suc (suc p)) h = let never : ⊥ = omega arith in absurd never
+-- a range in two parts
+range_parts : (a m n : ℕ) → range_with_len a (m + n) ≡ range_with_len a m ++ range_with_len (a + m) n
+range_parts a zero n = grind arith
+range_parts a (suc m) n = let more : suc m + n ≡ suc (m + n) = omega arith in rw more (grind (arith, range_parts (a + 1) m n))
 
 -- the ones of a number of k bits are its bits that are set
-pub ones_count : (k n : ℕ) → n < 2 ^ k → ones n ≡ set_count (bits_from (bit n) 0 k)
-unfolding bits_from
+pub ones_count : (k n : ℕ) → n < 2 ^ k → ones n ≡ count_by (bit n) (range_with_len 0 k)
 ones_count zero n h = omega (arith, ones-le 0 n h)
 ones_count (suc k) n h =
     let half : n / 2 < 2 ^ k = shr_below n k 1 (rw add-one h) in
     let shifted : (i : ℕ) → i < k → bit (n / 2) (0 + i) ≡ bit n (1 + i) =
     λ i l. ap (λ j. bit (n / 2) j) (zero-add i) ∙ ap (λ m. eqb (m % 2) 1) (shr-shr n 1 i) in
-    let last : cond {A = ℕ} (bit n 0) 1 0 ≡ n % 2 =
-    ap (λ m. cond {A = ℕ} (eqb (m % 2) 1) 1 0) (div-one n) ∙ digit_counts (n % 2) (mod_below n 2 (omega arith)) in
-    let rest : ones (n / 2) ≡ set_count (bits_from (bit n) 1 k) =
-    ones_count k (n / 2) half ∙ ap set_count (bits_alike (bit (n / 2)) (bit n) 0 1 k shifted) in
-    ones_step n ∙ (λ i. sym last i + rest i)
+    let rest : ones (n / 2) ≡ count_by (bit n) (range_with_len 1 k) =
+    ones_count k (n / 2) half ∙ count_alike (bit (n / 2)) (bit n) 0 1 k shifted in
+    let first : cond {A = ℕ} (bit n 0) 1 0 ≡ n % 2 = grind (arith, div-one n) in
+    ones_step n ∙ (λ i. sym first i + rest i) ∙ sym (sum_by-cons _ 0 (range_with_len 1 k))
 
--- the bits of one word of a row, as a part of the row's bits
-word_counts : (table : List ℕ) (c q : ℕ) → c < 8 → q < 4 →
-    word_fill (get_or table (c * 4 + q) 0) ≡ set_count (bits_from (rows_of 4 table c) (q * 64) 64)
-word_counts table c q hc hq =
-    ap set_count
-    (bits_alike (bit (get_or table (c * 4 + q) 0)) (rows_of 4 table c) 0 (q * 64) 64
-    (λ i l. ap (λ j. bit (get_or table (c * 4 + q) 0) j) (zero-add i) ∙
-    sym (rows_in 4 table c (q * 64 + i) hc (omega arith) ∙ (λ k. bit (get_or table (c * 4 + div-mul-add q 64 i l k) 0) (mod-mul-add q 64 i l k)))))
+-- the ones of a row's words are the row's bits that are set
+pub row_count : (row : List ℕ) → ((k : ℕ) → k < length row → get_or row k 0 < 2 ^ 64) →
+    sum_by ones row ≡ bits_set (row_bit row) (64 * length row)
+unfolding bits_set
+row_count [] fit = refl
+row_count (word ∷ row) fit =
+    let size : 64 + 64 * length row ≡ 64 * suc (length row) = omega arith in
+    sum_by-cons ones word row ∙
+    (λ i. (ones_count 64 word (fit 0 (omega arith)) ∙ count_alike (bit word) (row_bit (word ∷ row)) 0 0 64 here) i +
+    (row_count row (λ k l. fit (suc k) (omega arith)) ∙ count_alike (row_bit row) (row_bit (word ∷ row)) 0 64 (64 * length row) later) i) ∙
+    sym (sum_by-append _ (range_with_len 0 64) (range_with_len 64 (64 * length row))) ∙
+    ap (count_by (row_bit (word ∷ row))) (sym (range_parts 0 64 (64 * length row)) ∙ ap (range_with_len 0) size)
+  where
+    here : (i : ℕ) → i < 64 → bit word (0 + i) ≡ row_bit (word ∷ row) (0 + i)
+    here i l =
+        let word_at : 0 ≡ (0 + i) / 64 = omega arith in
+        let place : 0 + i ≡ (0 + i) % 64 = omega arith in
+        λ j. bit (get_or (word ∷ row) (word_at j) 0) (place j)
 
--- the number of set bits of a core is the sum of its four words' bits that are set
-pub fill_is : (table : List ℕ) (c : ℕ) → c < 8 →
-    word_fill (get_or table (c * 4) 0) + word_fill (get_or table (c * 4 + 1) 0) + word_fill (get_or table (c * 4 + 2) 0) + word_fill (get_or table (c * 4 + 3) 0) ≡ set_count (bits_from (rows_of 4 table c) 0 256)
-fill_is table c hc =
-    let first : word_fill (get_or table (c * 4) 0) ≡ set_count (bits_from (rows_of 4 table c) 0 64) =
-    ap (λ p. word_fill (get_or table p 0)) (sym (add-zero (c * 4))) ∙ word_counts table c 0 hc (omega arith) in
-    let second = word_counts table c 1 hc (omega arith) in
-    let third = word_counts table c 2 hc (omega arith) in
-    let fourth = word_counts table c 3 hc (omega arith) in
-    let one = count_parts (rows_of 4 table c) 0 64 192 in
-    let two = count_parts (rows_of 4 table c) 64 64 128 in
-    let three = count_parts (rows_of 4 table c) 128 64 64 in
-    omega (arith, first, second, third, fourth, one, two, three)
+    later : (i : ℕ) → i < 64 * length row → row_bit row (0 + i) ≡ row_bit (word ∷ row) (64 + i)
+    later i l =
+        let word_at : suc ((0 + i) / 64) ≡ (64 + i) / 64 = omega arith in
+        let place : (0 + i) % 64 ≡ (64 + i) % 64 = omega arith in
+        λ j. bit (get_or (word ∷ row) (word_at j) 0) (place j)
+
+-- no more bits are set than there are
+pub bits_set_bound : (row : ℕ → Bool) (n : ℕ) → bits_set row n ≤ n
+unfolding bits_set
+bits_set_bound row n = omega (arith, count_by-le-length row (range_with_len 0 n), length-range_with_len 0 n)

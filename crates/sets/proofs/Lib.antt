@@ -1,8 +1,6 @@
 -- Lemmas on bits, on tables of words and on the rows that a table means.
 pub mod Bits
-pub mod Tables
 pub mod Rows
-pub mod Ranges
 pub mod Sentences
 pub mod Fills
 pub mod Least

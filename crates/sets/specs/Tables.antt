@@ -1,32 +1,42 @@
--- Eight rows of bits in one table of 64-bit words, a row in `width` words one after another: which bit is where, and what the
--- table is after a bit is set, a row joined to another or a row emptied. Assumes nothing.
-use Rattle.std.specs.Prelude.{ℕ, zero, suc, ◌+◌, ◌*◌, ◌/◌, ◌%◌, ◌^◌, Bool, ◌&&◌, List, ◌==◌, bit_or, nat_lt, slice_index, slice_set}
+-- Eight rows of bits in a table, each row a list of 64-bit words: which bit is where, and what the table is after a bit is set, a
+-- row joined to another or a row emptied. Assumes nothing.
+use Rattle.std.specs.Prelude.{ℕ, ◌/◌, ◌%◌, ◌^◌, Bool, List, [], ◌==◌, bit_or, length, map, set, replicate, slice_index, slice_index_or, slice_set}
+use Rattle.std.specs.Int.{bit_at}
+use Rattle.std.specs.List.{range_with_len}
 use Rattle.sets.specs.Sentences.{Sets}
 
 -- whether bit i of a number is set, the lowest being bit 0
 abbrev pub bit : ℕ → ℕ → Bool
-bit n i = n / 2 ^ i % 2 == 1
+bit n i = bit_at n i == 1
 
--- whether bit x is set of the row that starts at the word `start` of the table
-abbrev pub row_bit : List ℕ → ℕ → ℕ → Bool
-row_bit table start x = bit (slice_index table (start + x / 64)) (x % 64)
+-- whether bit x of a row is set
+abbrev pub row_bit : List ℕ → ℕ → Bool
+row_bit row x = bit (slice_index row (x / 64)) (x % 64)
 
--- the rows that a table means: those of cores 0 to 7, each with 64 × width bits
-unfoldable pub rows_of : ℕ → List ℕ → Sets
-rows_of width table row x = nat_lt row 8 && (nat_lt x (width * 64) && row_bit table (row * width) x)
+-- the row of a core
+abbrev pub row_of : List (List ℕ) → ℕ → List ℕ
+row_of table core = slice_index_or table core []
 
--- the table with bit x set of the row that starts at the word `start`
-abbrev pub with_bit : List ℕ → ℕ → ℕ → List ℕ
-with_bit table start x = slice_set table (start + x / 64) (bit_or (slice_index table (start + x / 64)) (2 ^ (x % 64)))
+-- the rows that a table means
+unfoldable pub rows_of : List (List ℕ) → Sets
+rows_of table core = row_bit (row_of table core)
 
--- the table with each of n words from place `to` on joined with the word as far from place `from`
-unfoldable pub with_joined : List ℕ → ℕ → ℕ → ℕ → List ℕ
-with_joined table to from zero = table
-with_joined table to from (suc n) =
-    let before = with_joined table to from n in
-    slice_set before (to + n) (bit_or (slice_index before (to + n)) (slice_index before (from + n)))
+-- the row with bit x set
+abbrev pub row_with : List ℕ → ℕ → List ℕ
+row_with row x = slice_set row (x / 64) (bit_or (slice_index row (x / 64)) (2 ^ (x % 64)))
 
--- the table with n words from place `start` on emptied
-unfoldable pub with_emptied : List ℕ → ℕ → ℕ → List ℕ
-with_emptied table start zero = table
-with_emptied table start (suc n) = slice_set (with_emptied table start n) (start + n) 0
+-- the row joined with another, word by word
+unfoldable pub row_joined : List ℕ → List ℕ → List ℕ
+row_joined row other = map (λ i. bit_or (slice_index row i) (slice_index other i)) (range_with_len 0 (length row))
+
+-- the table with bit x of a core's row set
+abbrev pub with_bit : List (List ℕ) → ℕ → ℕ → List (List ℕ)
+with_bit table core x = set table core (row_with (row_of table core) x)
+
+-- the table with a core's row joined with another core's
+abbrev pub with_joined : List (List ℕ) → ℕ → ℕ → List (List ℕ)
+with_joined table core other = set table core (row_joined (row_of table core) (row_of table other))
+
+-- the table with a core's row emptied, a row of so many words
+abbrev pub with_emptied : ℕ → List (List ℕ) → ℕ → List (List ℕ)
+with_emptied width table core = set table core (replicate width 0)

@@ -1,25 +1,15 @@
--- A list of changes made in turn, and the law that no word is lost: each change keeps the exact sets within those of any
--- signature that keeps the sentences, so by induction the whole list does. Assumes nothing.
-use Rattle.std.proofs.Common.{◌≡◌, ℕ, ◌+◌, ◌<◌, ◌≤◌, List, [], ◌∷◌, length, get_or, drop, sym, ap, ◌∙◌}
-use Rattle.std.proofs.lemmas.List.{at_drop_more, at_drop_all}
+-- The law that no word is lost: each change keeps the exact sets within those of any signature that keeps the sentences. Assumes
+-- nothing.
+use Rattle.std.proofs.Common.{◌≡◌, ℕ, sym, ap, ◌∙◌}
 use Rattle.sets.specs.Operations.{Operations}
 use Rattle.sets.specs.Sentences.{Within, TakenIn, Cleared}
 use Rattle.sets.specs.Sentences as sentence
 use Rattle.sets.proofs.Least.{least_put, least_take_in, least_clear}
-use Rattle.signature.specs.Changes.{changed, applied}
+use Rattle.signature.specs.Changes.{changed}
 use Rattle.signature.specs.Exacts.{operations as exact, held, put, taken_in, cleared, put_holds, taken_in_holds, cleared_holds}
 use Rattle.signature.specs.declared.change.Change.{Change}
 use Rattle.signature.specs.declared.change.Change.TheVariants.{Put, TakeIn, Clear}
 use Rattle.signature.specs.declared.exact.Exact.{Exact}
-
--- one change more is made
-pub applied_more : {S : Type 0} (ops : Operations S) (s s' : S) (xs : List Change) (i : ℕ) (d : Change) → i < length xs →
-    s' ≡ changed ops s (get_or xs i d) → applied ops s' (drop (i + 1) xs) ≡ applied ops s (drop i xs)
-applied_more ops s s' xs i d h e = ap (λ u. applied ops u (drop (i + 1) xs)) e ∙ sym (at_drop_more (applied ops s) xs i d h)
-
--- all changes are made
-pub applied_all : {S : Type 0} (ops : Operations S) (s : S) (xs : List Change) (i : ℕ) → length xs ≤ i → s ≡ applied ops s (drop i xs)
-applied_all ops s xs i h = sym (at_drop_all (applied ops s) xs i h)
 
 -- a signature whose operations keep the sentences
 module _ {S : Type 0} (ops : Operations S)
@@ -27,19 +17,14 @@ module _ {S : Type 0} (ops : Operations S)
     (takes : (s : S) (c o : ℕ) → TakenIn (ops.holds s) (ops.holds (ops.take_in s c o)) c o)
     (clears : (s : S) (c : ℕ) → Cleared (ops.holds s) (ops.holds (ops.clear s c)) c) where
   -- one change keeps the exact sets within its sets
-  one_within : (e : Exact) (s : S) (x : Change) → Within (held e) (ops.holds s) → Within (held (changed exact e x)) (ops.holds (changed ops s x))
-  one_within e s (Put c w) within = least_put (held e) (held (put e c w)) (ops.holds s) (ops.holds (ops.put s c w)) c w (put_holds e c w) (puts s c w) within
-  one_within e s (TakeIn c o) within =
+  kept_within : (e : Exact) (s : S) (x : Change) → Within (held e) (ops.holds s) → Within (held (changed exact e x)) (ops.holds (changed ops s x))
+  kept_within e s (Put c w) within = least_put (held e) (held (put e c w)) (ops.holds s) (ops.holds (ops.put s c w)) c w (put_holds e c w) (puts s c w) within
+  kept_within e s (TakeIn c o) within =
       least_take_in (held e) (held (taken_in e c o)) (ops.holds s) (ops.holds (ops.take_in s c o)) c o (taken_in_holds e c o) (takes s c o) within
-  one_within e s (Clear c) within = least_clear (held e) (held (cleared e c)) (ops.holds s) (ops.holds (ops.clear s c)) c (cleared_holds e c) (clears s c) within
+  kept_within e s (Clear c) within = least_clear (held e) (held (cleared e c)) (ops.holds s) (ops.holds (ops.clear s c)) c (cleared_holds e c) (clears s c) within
 
-  -- no list of changes loses a word
-  pub never_loses : (xs : List Change) (e : Exact) (s : S) → Within (held e) (ops.holds s) → Within (held (applied exact e xs)) (ops.holds (applied ops s xs))
-  never_loses [] e s within = within
-  never_loses (x ∷ xs) e s within = never_loses xs (changed exact e x) (changed ops s x) (one_within e s x within)
-
-  -- the same of two signatures that are what the changes leave
-  pub never_loses_at : (xs : List Change) (e : Exact) (s : S) (e' : Exact) (s' : S) → e' ≡ applied exact e xs → s' ≡ applied ops s xs →
+  -- the same of two signatures that are what the change leaves
+  pub never_loses : (e e' : Exact) (s s' : S) (x : Change) → e' ≡ changed exact e x → s' ≡ changed ops s x →
       Within (held e) (ops.holds s) → Within (held e') (ops.holds s')
-  never_loses_at xs e s e' s' is is' within d v h =
-      ap (λ u. ops.holds u d v) is' ∙ never_loses xs e s within d v (ap (λ u. held u d v) (sym is) ∙ h)
+  never_loses e e' s s' x is is' within d v h =
+      ap (λ u. ops.holds u d v) is' ∙ kept_within e s x within d v (ap (λ u. held u d v) (sym is) ∙ h)

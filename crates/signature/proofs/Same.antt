@@ -1,59 +1,38 @@
--- Two signatures with one table are one signature: their ghost facts are equations of numbers, of which there is one proof. So
--- a method that leaves the table of a definition leaves the signature of it. Assumes nothing.
+-- Rows with one table are one value: their ghost facts are equations of numbers, of which there is one proof. So a method that leaves
+-- the table of a definition leaves the rows of it. Assumes nothing.
 use mathlib.Core.HLevel.{is_prop→PathP}
-use Rattle.std.proofs.Common.{◌≡◌, ℕ, ◌*◌, length, replicate}
+use Rattle.std.proofs.Common.{◌≡◌, ℕ, length, replicate}
 use denote.Struct.Props.{props}
-use Rattle.sets.specs.Rows.{first_bit, second_bit}
-use Rattle.sets.specs.Tables.{with_bit, with_joined, with_emptied}
-use Rattle.signature.specs.Blooms as blooms
-use Rattle.signature.specs.Exacts as exacts
-use Rattle.signature.specs.declared.bloom.Bloom.{Bloom}
-use Rattle.signature.specs.declared.exact.Exact.{Exact}
+use Rattle.std.specs.List.{All}
+use Rattle.sets.specs.Tables as tables
+use Rattle.signature.specs.Rows.{blank, with_bit, joined, emptied}
+use Rattle.signature.specs.declared.rows.Rows.{Rows}
 
-same_exact : (s t : Exact) → s.words ≡ t.words → s ≡ t
-same_exact s t e =
-    λ i. record { words = e i; full = is_prop→PathP (λ j. length (e j) ≡ 512) (λ j. hlevel props) s.full t.full i }
+module _ {W : ℕ} where
+  same_rows : (r s : Rows W) → r.table ≡ s.table → r ≡ s
+  same_rows r s e =
+      λ i. record {
+        table = e i;
+        cores = is_prop→PathP (λ j. length (e j) ≡ 8) (λ j. hlevel props) r.cores s.cores i;
+        widths = is_prop→PathP (λ j. All (λ row. length row ≡ W) (e j)) (λ j. hlevel props) r.widths s.widths i;
+      }
 
--- the exact signature as it is made
-pub exact_fresh : (t : Exact) → t.words ≡ replicate 512 0 → t ≡ exacts.fresh
-unfolding exacts.fresh
-exact_fresh t e = same_exact t exacts.fresh e
+  -- the rows as they are made
+  pub rows_blank : (r : Rows W) → r.table ≡ replicate 8 (replicate W 0) → r ≡ blank W
+  unfolding blank
+  rows_blank r e = same_rows r (blank W) e
 
--- the exact signature with a word's bit set
-pub exact_with_word : (s t : Exact) (c w : ℕ) → t.words ≡ with_bit s.words (c * 64) w → t ≡ exacts.with_word s c w
-unfolding exacts.with_word
-exact_with_word s t c w e = same_exact t (exacts.with_word s c w) e
+  -- the rows with a bit set
+  pub rows_with_bit : (r s : Rows W) (c x : ℕ) → s.table ≡ tables.with_bit r.table c x → s ≡ with_bit r c x
+  unfolding with_bit
+  rows_with_bit r s c x e = same_rows s (with_bit r c x) e
 
--- the exact signature with a row joined
-pub exact_joined : (s t : Exact) (c o : ℕ) → t.words ≡ with_joined s.words (c * 64) (o * 64) 64 → t ≡ exacts.joined s c o
-unfolding exacts.joined
-exact_joined s t c o e = same_exact t (exacts.joined s c o) e
+  -- the rows with a row joined
+  pub rows_joined : (r s : Rows W) (c o : ℕ) → s.table ≡ tables.with_joined r.table c o → s ≡ joined r c o
+  unfolding joined
+  rows_joined r s c o e = same_rows s (joined r c o) e
 
--- the exact signature with a row emptied
-pub exact_emptied : (s t : Exact) (c : ℕ) → t.words ≡ with_emptied s.words (c * 64) 64 → t ≡ exacts.emptied s c
-unfolding exacts.emptied
-exact_emptied s t c e = same_exact t (exacts.emptied s c) e
-
-same_bloom : (s t : Bloom) → s.words ≡ t.words → s ≡ t
-same_bloom s t e =
-    λ i. record { words = e i; full = is_prop→PathP (λ j. length (e j) ≡ 32) (λ j. hlevel props) s.full t.full i }
-
--- the Bloom signature as it is made
-pub bloom_fresh : (t : Bloom) → t.words ≡ replicate 32 0 → t ≡ blooms.fresh
-unfolding blooms.fresh
-bloom_fresh t e = same_bloom t blooms.fresh e
-
--- the Bloom signature with a word's two bits set
-pub bloom_with_word : (s t : Bloom) (c w : ℕ) → t.words ≡ with_bit (with_bit s.words (c * 4) (first_bit w)) (c * 4) (second_bit w) → t ≡ blooms.with_word s c w
-unfolding blooms.with_word
-bloom_with_word s t c w e = same_bloom t (blooms.with_word s c w) e
-
--- the Bloom signature with a row joined
-pub bloom_joined : (s t : Bloom) (c o : ℕ) → t.words ≡ with_joined s.words (c * 4) (o * 4) 4 → t ≡ blooms.joined s c o
-unfolding blooms.joined
-bloom_joined s t c o e = same_bloom t (blooms.joined s c o) e
-
--- the Bloom signature with a row emptied
-pub bloom_emptied : (s t : Bloom) (c : ℕ) → t.words ≡ with_emptied s.words (c * 4) 4 → t ≡ blooms.emptied s c
-unfolding blooms.emptied
-bloom_emptied s t c e = same_bloom t (blooms.emptied s c) e
+  -- the rows with a row emptied
+  pub rows_emptied : (r s : Rows W) (c : ℕ) → s.table ≡ tables.with_emptied W r.table c → s ≡ emptied r c
+  unfolding emptied
+  rows_emptied r s c e = same_rows s (emptied r c) e

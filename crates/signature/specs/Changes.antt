@@ -1,5 +1,5 @@
 -- Changes of a signature by its own operations, one and a list of them. Assumes nothing.
-use Rattle.std.specs.Prelude.{ℕ, List, [], ◌∷◌}
+use Rattle.std.specs.Prelude.{List, fold}
 use Rattle.sets.specs.Operations.{Operations}
 use Rattle.signature.specs.declared.change.Change.{Change}
 use Rattle.signature.specs.declared.change.Change.TheVariants.{Put, TakeIn, Clear}
@@ -12,5 +12,4 @@ changed ops s (Clear core) = ops.clear s core
 
 -- a signature after a list of changes, the first of the list first
 abbrev pub applied : {S : Type 0} → Operations S → S → List Change → S
-applied ops s [] = s
-applied ops s (x ∷ xs) = applied ops (changed ops s x) xs
+applied ops s xs = fold (changed ops) s xs

@@ -6,7 +6,7 @@ pub mod bloom;
 pub mod change;
 pub mod exact;
 pub mod interface;
-mod table;
+mod rows;
 
 pub use bloom::Bloom;
 pub use change::Change;

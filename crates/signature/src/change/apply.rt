@@ -26,6 +26,7 @@ fn make<S: Signature>(s: &mut S, change: Change)
 fn make_both<S: Signature>(exact: &mut Exact, other: &mut S, change: Change)
     ensures exactly { exact.new ≡ changed exact_operations exact.old change }
     ensures after { other.new ≡ changed S.operations other.old change }
+    ensures never_loses { Within (held_exact exact.old) (S.operations.holds other.old) → Within (held_exact exact.new) (S.operations.holds other.new) }
 {
     make(exact, change);
     make(other, change);

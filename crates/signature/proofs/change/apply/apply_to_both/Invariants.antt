@@ -1,10 +1,11 @@
-use Rattle.std.proofs.Common.{◌≡◌, drop}
+use Rattle.std.proofs.Common.{◌≡◌, take}
+use Rattle.sets.specs.Sentences.{Within}
 use Rattle.signature.specs.Changes.{applied}
-use Rattle.signature.specs.Exacts.{operations}
+use Rattle.signature.specs.Exacts.{operations, held}
 use Rattle.signature.proofs.change.apply.apply_to_both.Given as goal
 
 abbrev pub invariant-loop-change : goal.invariant-loop-change
 invariant-loop-change g l =
-    (applied operations l.exact (drop l.change-index l.changes) ≡ applied operations l.initial.exact l.changes) ×
-    (applied g.S.Signature.operations l.other (drop l.change-index l.changes) ≡
-    applied g.S.Signature.operations l.initial.other l.changes)
+    (l.exact ≡ applied operations l.initial.exact (take l.change-index l.changes))
+    × (l.other ≡ applied g.S.Signature.operations l.initial.other (take l.change-index l.changes))
+    × (Within (held l.initial.exact) (g.S.Signature.operations.holds l.initial.other) → Within (held l.exact) (g.S.Signature.operations.holds l.other))
