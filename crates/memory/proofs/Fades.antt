@@ -24,26 +24,26 @@ use Rattle.memory.proofs.Walks.{walked_in, walked_past, tally_more}
 module _ (f : Five) (plan : ℕ) where
   -- what is left of an entry is what is left of its copy
   left_copy : (e : Entry) → copy_in (left_by f plan e) ≡ faded f plan (copy_in e)
-  left_copy e = shape (goes f plan e.place) ∙ go e.state
+  left_copy e = shape (goes f plan e.place.number) ∙ go e.state
     where
-      shape : (b : Bool) → copy_in (cond b (turned e Fade) e) ≡ copy_by (cond b (state_after e.state Fade) e.state) e.place e.word
+      shape : (b : Bool) → copy_in (cond b (turned e Fade) e) ≡ copy_by (cond b (state_after e.state Fade) e.state) e.place.number e.word
       shape true = refl
       shape false = refl
 
-      go : (s : State) → copy_by (cond (goes f plan e.place) (state_after s Fade) s) e.place e.word ≡ faded f plan (copy_by s e.place e.word)
-      go Invalid = same (goes f plan e.place)
+      go : (s : State) → copy_by (cond (goes f plan e.place.number) (state_after s Fade) s) e.place.number e.word ≡ faded f plan (copy_by s e.place.number e.word)
+      go Invalid = same (goes f plan e.place.number)
         where
-          same : (b : Bool) → copy_by (cond b Invalid Invalid) e.place e.word ≡ invalid
+          same : (b : Bool) → copy_by (cond b Invalid Invalid) e.place.number e.word ≡ invalid
           same true = refl
           same false = refl
-      go Valid = same (goes f plan e.place)
+      go Valid = same (goes f plan e.place.number)
         where
-          same : (b : Bool) → copy_by (cond b Invalid Valid) e.place e.word ≡ cond b invalid (valid e.place e.word)
+          same : (b : Bool) → copy_by (cond b Invalid Valid) e.place.number e.word ≡ cond b invalid (valid e.place.number e.word)
           same true = refl
           same false = refl
-      go Registered = same (goes f plan e.place)
+      go Registered = same (goes f plan e.place.number)
         where
-          same : (b : Bool) → copy_by (cond b Registered Registered) e.place e.word ≡ registered e.place e.word
+          same : (b : Bool) → copy_by (cond b Registered Registered) e.place.number e.word ≡ registered e.place.number e.word
           same true = refl
           same false = refl
 
@@ -59,17 +59,10 @@ module _ (f : Five) (plan : ℕ) where
       all true = refl
       all false = refl
 
-      go : (s : State) → (goes f plan e.place && is_dropped (done_by s Fade)) ≡ dropped f plan (copy_by s e.place e.word)
-      go Invalid = none (goes f plan e.place)
-      go Valid = all (goes f plan e.place)
-      go Registered = none (goes f plan e.place)
-
-  left_place : (e : Entry) → (left_by f plan e).place ≡ e.place
-  left_place e = go (goes f plan e.place)
-    where
-      go : (b : Bool) → (cond b (turned e Fade) e).place ≡ e.place
-      go true = refl
-      go false = refl
+      go : (s : State) → (goes f plan e.place.number && is_dropped (done_by s Fade)) ≡ dropped f plan (copy_by s e.place.number e.word)
+      go Invalid = none (goes f plan e.place.number)
+      go Valid = all (goes f plan e.place.number)
+      go Registered = none (goes f plan e.place.number)
 
   left_empty : left_by f plan empty ≡ empty
   left_empty = go (goes f plan 0)
@@ -80,9 +73,9 @@ module _ (f : Five) (plan : ℕ) where
 
   -- an entry that counts for a word still does
   left_counts : (w : ℕ) (e : Entry) → counts_for w e ≡ true → counts_for w (left_by f plan e) ≡ true
-  left_counts w e h = go (goes f plan e.place)
+  left_counts w e h = go (goes f plan e.place.number)
     where
-      kept : (s : State) → (is_registered s && eqb e.place w) ≡ true → (is_registered (state_after s Fade) && eqb e.place w) ≡ true
+      kept : (s : State) → (is_registered s && eqb e.place.number w) ≡ true → (is_registered (state_after s Fade) && eqb e.place.number w) ≡ true
       kept Invalid t = t
       kept Valid t = t
       kept Registered t = t
@@ -105,7 +98,6 @@ module _ (f : Five) (plan : ℕ) where
           record {
             caches = length-map es (left_by f plan) ∙ s.caches;
             words = s.words;
-            placed = λ k. ap (λ (x : Entry). ltb x.place 4096) (at_left es k) ∙ (ap (λ (n : ℕ). ltb n 4096) (left_place (get_or es k empty)) ∙ s.placed k);
             owned =
                 owned_kept f es (map (left_by f plan) es) os
                 (λ w k h. ap (counts_for w) (at_left es k) ∙ left_counts w (get_or es k empty) h)

@@ -1,19 +1,23 @@
 -- Tables that are just made hold nothing, and the count of owned words goes word by word. Assumes nothing.
 use Rattle.std.proofs.Common.{◌≡◌, ℕ, zero, suc, ◌+◌, ◌≤◌, Bool, true, false, cond, ltb, List, [], ◌∷◌, ◌++◌, length, get_or, replicate, is_some, Some, None, Option, sym, refl, ap, ◌∙◌, add-one, arith}
 use lib.ListN.{length-replicate}
+use mathlib.Core.HLevel.{is_prop→PathP}
+use denote.Struct.Props.{props}
 use Rattle.std.proofs.lemmas.List.{get_or_past}
 use Rattle.std.proofs.lemmas.Bool.{ltb-false}
 use Rattle.std.specs.Option.{option_map}
+use Rattle.word.specs.Words.{blank_word}
 use Rattle.word.specs.declared.word.Word.{Word}
 use Rattle.call.specs.Figures.{Five}
 use Rattle.rules.specs.Questions.{owned_among}
 use Rattle.rules.specs.State.{invalid, Memory, empty_caches}
 use Rattle.rules.specs.Tables.{below}
 use Rattle.memory.specs.Entries.{copy_in, empty}
-use Rattle.memory.specs.Owners.{Core, seat, holds}
+use Rattle.memory.specs.Owners.{Core, Place, seat, holds}
 use Rattle.memory.specs.Views.{copies_of, owner_number, owners_of, memory_of}
 use Rattle.memory.specs.declared.bounds.Below.{Below}
 use Rattle.memory.specs.declared.entry.Entry.{Entry}
+use Rattle.memory.specs.declared.entry.State.TheVariants.{Invalid}
 use Rattle.memory.proofs.Owned.{Sound}
 use Rattle.memory.proofs.Views.{same_memory}
 
@@ -23,12 +27,20 @@ filled zero x k = refl
 filled (suc n) x zero = refl
 filled (suc n) x (suc k) = filled n x k
 
+-- two numbers below a limit are one where they are equal
+same_below : {limit : ℕ} (n m : Below limit) → n.number ≡ m.number → n ≡ m
+same_below {limit = limit} n m e =
+    λ i. record { number = e i; within = is_prop→PathP (λ j. ltb (e j) limit ≡ true) (λ j. hlevel props) n.within m.within i }
+
+-- an invalid entry of place 0 with the blank word
+pub blank_entry : (e : Entry) → e.state ≡ Invalid → e.place.number ≡ 0 → e.word ≡ blank_word → e ≡ empty
+blank_entry e state place word = λ i. record { state = state i; place = same_below e.place empty.place place i; word = word i }
+
 pub open_sound : (f : Five) (n k : ℕ) (es : List Entry) (os : List (Option Core)) → n ≡ 512 → k ≡ 4096 → es ≡ replicate n empty → os ≡ replicate k None → Sound f es os
 open_sound f n k es os ne ke ee oe =
     record {
       caches = ap length ee ∙ (length-replicate n empty ∙ ne);
       words = ap length oe ∙ (length-replicate k None ∙ ke);
-      placed = λ at. ap (λ (l : List Entry). ltb (get_or l at empty).place 4096) ee ∙ ap (λ (e : Entry). ltb e.place 4096) (filled n empty at);
       owned = λ w. ap (λ (l : List (Option Core)). holds f es w (get_or l w None)) oe ∙ ap (holds f es w) (filled k None w);
     }
 
@@ -55,7 +67,7 @@ unfolding owners_of
 owner_past os w h = sym (ap owner_number (get_or_past os w None h))
 
 -- a number that has no place is past the table
-pub no_place : (p : Option (Below 4096)) (w : ℕ) → option_map (λ n. n.number) p ≡ cond (ltb w 4096) (Some w) None → p ≡ None → 4096 ≤ w
+pub no_place : (p : Option Place) (w : ℕ) → option_map (λ n. n.number) p ≡ cond (ltb w 4096) (Some w) None → p ≡ None → 4096 ≤ w
 no_place p w told none = go (ltb w 4096) refl (sym (ap (option_map (λ n. n.number)) none) ∙ told)
   where
     go : (b : Bool) → ltb w 4096 ≡ b → ◌≡◌ {A = Option ℕ} None (cond b (Some w) None) → 4096 ≤ w
@@ -63,7 +75,7 @@ no_place p w told none = go (ltb w 4096) refl (sym (ap (option_map (λ n. n.numb
     go false h t = ltb-false w 4096 h
 
 -- the place of a number is that number
-pub same_place : (p : Option (Below 4096)) (w : ℕ) (place : Below 4096) → option_map (λ n. n.number) p ≡ cond (ltb w 4096) (Some w) None → p ≡ Some place → place.number ≡ w
+pub same_place : (p : Option Place) (w : ℕ) (place : Place) → option_map (λ n. n.number) p ≡ cond (ltb w 4096) (Some w) None → p ≡ Some place → place.number ≡ w
 same_place p w place told some = go (ltb w 4096) (sym (ap (option_map (λ n. n.number)) some) ∙ told)
   where
     go : (b : Bool) → Some place.number ≡ cond b (Some w) None → place.number ≡ w
@@ -71,7 +83,7 @@ same_place p w place told some = go (ltb w 4096) (sym (ap (option_map (λ n. n.n
     go false t = let z : ◌≡◌ {A = ℕ} 0 1 = cc in let no_way : ⊥ = omega arith in absurd no_way
 
 -- the owner of a word, by the place of its number
-pub owner_there : (os : List (Option Core)) (p : Option (Below 4096)) (w : ℕ) (place : Below 4096) (r o : Option Core) → option_map (λ n. n.number) p ≡ cond (ltb w 4096) (Some w) None → p ≡ Some place → r ≡ get_or os place.number None → r ≡ o → owner_number o ≡ owners_of os w
+pub owner_there : (os : List (Option Core)) (p : Option Place) (w : ℕ) (place : Place) (r o : Option Core) → option_map (λ n. n.number) p ≡ cond (ltb w 4096) (Some w) None → p ≡ Some place → r ≡ get_or os place.number None → r ≡ o → owner_number o ≡ owners_of os w
 unfolding owners_of
 owner_there os p w place r o told some read is =
     ap owner_number (sym is ∙ (read ∙ ap (λ (k : ℕ). get_or os k None) (same_place p w place told some)))

@@ -34,7 +34,7 @@ pub record Settling (f : Five) (m n : Memory) (es fs : List Entry) (at count : �
 registered_copy : (e : Entry) → effect.is_registered (copy_in e) ≡ is_registered e.state
 registered_copy e = go e.state
   where
-    go : (s : State) → effect.is_registered (copy_by s e.place e.word) ≡ is_registered s
+    go : (s : State) → effect.is_registered (copy_by s e.place.number e.word) ≡ is_registered s
     go Invalid = refl
     go Valid = refl
     go Registered = refl

@@ -8,16 +8,17 @@ ghost use Rattle.memory.specs.Walks.{within, walked};
 
 use super::Memory;
 use super::settles::is_within;
+use crate::bounds::Place;
 use crate::entry::{Entry, Event};
 use crate::mode::{Mode, mode_of};
 use call::Figures;
 use page::PageStore;
 
 // Whether copies of a word go when a phase under this plan ends.
-fn goes_at_end(figures: &Figures, plan: u64, word: u16) -> bool
-    ensures { result ≡ goes (numbers figures.now) plan word }
+fn goes_at_end(figures: &Figures, plan: u64, word: Place) -> bool
+    ensures { result ≡ goes (numbers figures.now) plan word.number }
 {
-    !matches!(mode_of(figures, plan, word), Mode::ReadOnly)
+    !matches!(mode_of(figures, plan, word.number), Mode::ReadOnly)
 }
 
 // The end of a phase at one entry: whether its copy is dropped.

@@ -33,7 +33,7 @@ returns g c =
     let wrote = c.write_back.ensures in
     let took = c.take-answer.ensures in
     let put = c.register.ensures in
-    let steps = claim_steps (figures m.figures) (figures a.figures) (view words m) (words a.page) (words b.page) (words d.page) a.entries b.entries d.entries a.owners b.owners d.owners at c.args.core.number c.args.word.number c.take-answer.result c.args.stored (ap figures wrote.figures) c.seat-at.ensures.core c.seat-at.ensures.slot (limited c.args.word) (sound_of a) (settled_idle m.entries a.entries (index_of at) (omega (arith, m.caches, seat_below at)) wrote.entries) wrote.after took.answer took.page took.entries took.owners put.page put.entries put.owners in
+    let steps = claim_steps (figures m.figures) (figures a.figures) (view words m) (words a.page) (words b.page) (words d.page) a.entries b.entries d.entries a.owners b.owners d.owners at c.args.core.number c.args.word c.take-answer.result c.args.stored (ap figures wrote.figures) c.seat-at.ensures.core c.seat-at.ensures.slot (sound_of a) (settled_idle m.entries a.entries (index_of at) (omega (arith, m.caches, seat_below at)) wrote.entries) wrote.after took.answer took.page took.entries took.owners put.page put.entries put.owners in
     record {
       figures = put.figures ∙ (took.figures ∙ wrote.figures);
       answer = steps.answer;

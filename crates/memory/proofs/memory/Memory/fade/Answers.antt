@@ -10,8 +10,8 @@ use Rattle.memory.proofs.memory.Memory.fade.Goals as goal
 pub invariant_of-self : goal.invariant_of-self
 invariant_of-self g c =
     let m = c.args.self.now in
-    let s = faded_sound (figures m.figures) c.args.plan m.entries _ m.owners c.fade_all.ensures.after (record { caches = m.caches; words = m.words; placed = m.placed; owned = m.owned }) in
-    record { caches = s.caches; words = s.words; placed = s.placed; owned = s.owned }
+    let s = faded_sound (figures m.figures) c.args.plan m.entries _ m.owners c.fade_all.ensures.after (record { caches = m.caches; words = m.words; owned = m.owned }) in
+    record { caches = s.caches; words = s.words; owned = s.owned }
 
 pub returns : goal.returns
 returns g c =

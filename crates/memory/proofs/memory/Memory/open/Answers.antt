@@ -7,7 +7,7 @@ use Rattle.memory.proofs.memory.Memory.open.Goals as goal
 pub invariant_of-result : goal.invariant_of-result
 invariant_of-result g c =
     let s = open_sound (figures c.args.figures) 512 4096 _ _ refl refl (ap (replicate 512) c.empty.ensures) refl in
-    record { caches = s.caches; words = s.words; placed = s.placed; owned = s.owned }
+    record { caches = s.caches; words = s.words; owned = s.owned }
 
 pub returns : goal.returns
 returns g c =

@@ -10,5 +10,5 @@ pub invariant_of-self : goal.invariant_of-self
 invariant_of-self g c =
     let m = c.args.self.now in
     let at = c.args.at in
-    let s = register_sound (figures m.figures) m.entries m.owners at.core c.args.word.number c.index.result c.args.stored (sound_of m) (limited c.args.word) (c.index.ensures.value ∙ ap (seat at.core.number) c.requires.seated) c.index.ensures.within (rw c.index.ensures.value c.requires.idle) in
-    record { caches = s.caches; words = s.words; placed = s.placed; owned = s.owned }
+    let s = register_sound (figures m.figures) m.entries m.owners at.core c.args.word c.index.result c.args.stored (sound_of m) (c.index.ensures.value ∙ ap (seat at.core.number) c.requires.seated) c.index.ensures.within (rw c.index.ensures.value c.requires.idle) in
+    record { caches = s.caches; words = s.words; owned = s.owned }
