@@ -2,6 +2,7 @@
 -- entries stay, so every owner still holds its word. Assumes nothing.
 use Rattle.std.proofs.Common.{◌≡◌, ℕ, zero, suc, ◌+◌, ◌<◌, ◌≤◌, Bool, true, false, cond, ◌&&◌, eqb, ltb, List, [], ◌∷◌, ◌++◌, map, length, get_or, set, Option, sym, refl, ap, ◌∙◌, add-one, arith, below_more}
 use Rattle.std.proofs.lemmas.List.{length-map, length-set, get_or-set_same, get_or-set_other, get_or_default, ext_get_or}
+use Rattle.std.specs.Int.{from_bool}
 use Rattle.word.specs.declared.word.Word.{Word}
 use Rattle.call.specs.Figures.{Five}
 use Rattle.rules.specs.Effects as effect
@@ -19,7 +20,7 @@ use Rattle.memory.specs.declared.entry.State.TheVariants.{Invalid, Valid, Regist
 use Rattle.memory.proofs.Owned.{Sound, owned_kept}
 use Rattle.memory.proofs.Settles.{copy_at}
 use Rattle.memory.proofs.Views.{same_memory}
-use Rattle.memory.proofs.Walks.{walked_in, walked_past, tally_more}
+use Rattle.memory.proofs.Walks.{walked_in, walked_past, tally_more, one_of, one_most}
 
 module _ (f : Five) (plan : ℕ) where
   -- what is left of an entry is what is left of its copy
@@ -132,8 +133,8 @@ module _ (f : Five) (plan : ℕ) where
   unfolding walked
   fading_none es = record { done = λ k h. absurd (omega arith); rest = λ k h. refl; counted = refl; small = omega arith; long = refl }
 
-  pub fading_more : (es fs : List Entry) (at count added : ℕ) (held d : Entry) → at < length es → held ≡ left_by f plan (get_or fs at d) → added ≡ cond {A = ℕ} (drops f plan (get_or fs at d) && within f at) 1 0 → added ≤ 1 → Fading es fs at count → Fading es (set fs at held) (at + 1) (count + added)
-  fading_more es fs at count added held d inside he ae few s =
+  pub fading_more : (es fs : List Entry) (at count : ℕ) (gone : Bool) (held d : Entry) → at < length es → held ≡ left_by f plan (get_or fs at d) → gone ≡ (drops f plan (get_or fs at d) && within f at) → Fading es fs at count → Fading es (set fs at held) (at + 1) (count + from_bool gone)
+  fading_more es fs at count gone held d inside he ge s =
       record {
         done =
             below_more _ _
@@ -141,7 +142,7 @@ module _ (f : Five) (plan : ℕ) where
             (get_or-set_same fs at held empty in_fs ∙ (he ∙ ap (left_by f plan) now));
         rest = λ k h. get_or-set_other fs at k held empty (λ e. omega arith) ∙ s.rest k (omega arith);
         counted = ap (λ (n : ℕ). count + n) told ∙ rw add-one (go (within f at) refl);
-        small = omega (arith, s.small);
+        small = omega (arith, s.small, one_most gone);
         long = length-set fs at held ∙ s.long;
       }
     where
@@ -151,9 +152,9 @@ module _ (f : Five) (plan : ℕ) where
       now : get_or fs at d ≡ get_or es at empty
       now = get_or_default fs at d empty in_fs ∙ s.rest at (omega arith)
 
-      told : added ≡ cond {A = ℕ} (test es (place_at at) && within f at) 1 0
+      told : from_bool gone ≡ cond {A = ℕ} (test es (place_at at) && within f at) 1 0
       told =
-          ae
+          one_of gone ∙ ap (λ (b : Bool). cond {A = ℕ} b 1 0) ge
           ∙ ap (λ (b : Bool). cond {A = ℕ} (b && within f at) 1 0) (ap (drops f plan) now ∙ (drops_copy (get_or es at empty) ∙ ap (dropped f plan) (sym (copy_at es at))))
 
       only : (b : Bool) → (b && true) ≡ b

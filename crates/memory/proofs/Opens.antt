@@ -5,6 +5,7 @@ use mathlib.Core.HLevel.{is_prop→PathP}
 use denote.Struct.Props.{props}
 use Rattle.std.proofs.lemmas.List.{get_or_past}
 use Rattle.std.proofs.lemmas.Bool.{ltb-false}
+use Rattle.std.specs.Int.{from_bool}
 use Rattle.std.specs.Option.{option_map}
 use Rattle.word.specs.Words.{blank_word}
 use Rattle.word.specs.declared.word.Word.{Word}
@@ -20,6 +21,7 @@ use Rattle.memory.specs.declared.entry.Entry.{Entry}
 use Rattle.memory.specs.declared.entry.State.TheVariants.{Invalid}
 use Rattle.memory.proofs.Owned.{Sound}
 use Rattle.memory.proofs.Views.{same_memory}
+use Rattle.memory.proofs.Walks.{one_of, one_most}
 
 -- a table that is filled with its default reads as that everywhere
 filled : {X : Type 0} (n : ℕ) (x : X) (k : ℕ) → get_or (replicate n x) k x ≡ x
@@ -93,6 +95,7 @@ pub owned_more : (m : Memory) (ws : List ℕ) (w : ℕ) → owned_among m (ws ++
 owned_more m [] w = omega arith
 owned_more m (v ∷ ws) w = omega (arith, owned_more m ws w)
 
-pub owned_step : (m : Memory) (w count added : ℕ) → count ≡ owned_among m (below w) → added ≡ cond {A = ℕ} (is_some (m.owners w)) 1 0 → count + added ≡ owned_among m (below (w + 1))
-owned_step m w count added c a =
-    rw add-one (omega (arith, owned_more m (below w) w))
+pub owned_step : (m : Memory) (w count : ℕ) (has : Bool) → count ≡ owned_among m (below w) → count ≤ w → has ≡ is_some (m.owners w) → (count + from_bool has ≡ owned_among m (below (w + 1))) × (count + from_bool has ≤ w + 1)
+owned_step m w count has c few h =
+    let one : from_bool has ≡ cond {A = ℕ} (is_some (m.owners w)) 1 0 = one_of has ∙ ap (λ (b : Bool). cond {A = ℕ} b 1 0) h in
+    (rw add-one (omega (arith, owned_more m (below w) w, one)), omega (arith, one_most has))

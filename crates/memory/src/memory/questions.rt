@@ -48,17 +48,6 @@ impl<P: PageStore> Memory<P> {
         page_word(&mut self.page, word)
     }
 
-    // 1 for a word with an owner, 0 for one without.
-    fn counted(&self, word: u16) -> u16
-        ensures value { result ≡ cond {A = ℕ} (is_some ((view P.words self.now).owners word)) 1 0 }
-        ensures small { result ≤ 1 }
-    {
-        match self.owner(word) {
-            Some(_) => 1,
-            None => 0,
-        }
-    }
-
     /// How many words have an owner.
     pub fn owned(&self) -> u16
         ensures { result ≡ owned_among (view P.words self.now) (below (size_of (five_of self.now) (P.words self.now.page))) }
@@ -73,7 +62,7 @@ impl<P: PageStore> Memory<P> {
     {
         let mut owned = 0;
         for word in 0..size {
-            owned += self.counted(word);
+            owned += self.owner(word).is_some() as u16;
         }
         owned
     }
