@@ -1,10 +1,11 @@
 -- Tables that are just made hold nothing, and the count of owned words goes word by word. Assumes nothing.
-use Rattle.std.proofs.Common.{◌≡◌, ℕ, zero, suc, ◌+◌, ◌≤◌, Bool, true, false, cond, ltb, List, [], ◌∷◌, ◌++◌, length, get_or, replicate, is_some, Some, None, Option, sym, refl, ap, ◌∙◌, add-one, arith}
+use Rattle.std.proofs.Common.{◌≡◌, ℕ, zero, suc, ◌+◌, ◌<◌, ◌≤◌, Bool, true, false, cond, ltb, List, [], ◌∷◌, ◌++◌, length, get_or, replicate, is_some, take, count_by, Some, None, Option, sym, refl, ap, ◌∙◌, add-one, arith}
 use lib.ListN.{length-replicate}
 use mathlib.Core.HLevel.{is_prop→PathP}
 use denote.Struct.Props.{props}
-use Rattle.std.proofs.lemmas.List.{get_or_past}
-use Rattle.std.proofs.lemmas.Bool.{ltb-false}
+use Rattle.std.proofs.lemmas.List.{get_or_past, take_all}
+use Rattle.std.proofs.lemmas.List.Sums.{count_by_more_yes, count_by_more_no}
+use Rattle.std.proofs.lemmas.Bool.{ltb-true, ltb-false}
 use Rattle.std.specs.Int.{from_bool}
 use Rattle.std.specs.Option.{option_map}
 use Rattle.word.specs.Words.{blank_word}
@@ -95,7 +96,23 @@ pub owned_more : (m : Memory) (ws : List ℕ) (w : ℕ) → owned_among m (ws ++
 owned_more m [] w = omega arith
 owned_more m (v ∷ ws) w = omega (arith, owned_more m ws w)
 
-pub owned_step : (m : Memory) (w count : ℕ) (has : Bool) → count ≡ owned_among m (below w) → count ≤ w → has ≡ is_some (m.owners w) → (count + from_bool has ≡ owned_among m (below (w + 1))) × (count + from_bool has ≤ w + 1)
-owned_step m w count has c few h =
-    let one : from_bool has ≡ cond {A = ℕ} (is_some (m.owners w)) 1 0 = one_of has ∙ ap (λ (b : Bool). cond {A = ℕ} b 1 0) h in
-    (rw add-one (omega (arith, owned_more m (below w) w, one)), omega (arith, one_most has))
+-- the owners of the first words are counted in the table
+pub owned_taken : (ps : List Word) (es : List Entry) (os : List (Option Core)) (n : ℕ) → count_by is_some (take n os) ≡ owned_among (memory_of ps es os) (below n)
+unfolding owners_of
+owned_taken ps es os zero = refl
+owned_taken ps es os (suc n) =
+    go (ltb n (length os)) refl ∙ (ap (λ (k : ℕ). k + cond {A = ℕ} (is_some (owners_of os n)) 1 0) (owned_taken ps es os n) ∙ sym (owned_more (memory_of ps es os) (below n) n))
+  where
+    counted : ℕ → ℕ
+    counted k = count_by is_some (take k os)
+
+    here : n < length os → (o : Option Core) → get_or os n None ≡ o → counted (suc n) ≡ counted n + cond {A = ℕ} (is_some (owner_number o)) 1 0
+    here less None e = let same = count_by_more_no is_some os n None less (ap is_some e) in let k = rw add-one at same in omega (arith, k)
+    here less (Some c) e = let more = count_by_more_yes is_some os n None less (ap is_some e) in rw add-one at more
+
+    go : (b : Bool) → ltb n (length os) ≡ b → counted (suc n) ≡ counted n + cond {A = ℕ} (is_some (owner_number (get_or os n None))) 1 0
+    go true h = here (ltb-true n (length os) h) (get_or os n None) refl
+    go false h =
+        let past = ltb-false n (length os) h in
+        let none : counted (suc n) ≡ counted n = ap (count_by is_some) (take_all (suc n) os (omega (arith, past)) ∙ sym (take_all n os past)) in
+        rw (get_or_past os n None past) (omega (arith, none))

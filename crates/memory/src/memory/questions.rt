@@ -1,5 +1,5 @@
 //! What can be asked of a memory. No question changes it.
-ghost use Rattle.std.specs.Prelude.{◌≡◌, ℕ, ◌≤◌, cond, is_some};
+ghost use Rattle.std.specs.Prelude.{◌≡◌, ◌≤◌, is_some, count_by, take};
 ghost use Rattle.rules.specs.Questions.{owned_among};
 ghost use Rattle.rules.specs.State.{size_of, page_word};
 ghost use Rattle.rules.specs.Tables.{below};
@@ -8,10 +8,17 @@ ghost use Rattle.memory.specs.Views.{view, five_of};
 use super::Memory;
 use super::loads::page_word;
 use super::opens::size_with;
-use crate::bounds::Place;
+use crate::bounds::{Core, Place};
 use call::Figures;
 use page::PageStore;
 use word::Word;
+
+// How many of the first owners of a table are there.
+fn owned_first(owners: &[Option<Core>], size: u16) -> u16
+    ensures { result ≡ count_by is_some (take size owners.now) }
+{
+    owners.iter().take(size as usize).filter(|owner| owner.is_some()).count() as u16
+}
 
 impl<P: PageStore> Memory<P> {
     /// The figures that it was opened with.
@@ -52,18 +59,13 @@ impl<P: PageStore> Memory<P> {
     pub fn owned(&self) -> u16
         ensures { result ≡ owned_among (view P.words self.now) (below (size_of (five_of self.now) (P.words self.now.page))) }
     {
-        let size = self.size();
-        self.owned_below(size)
+        self.owned_below(self.size())
     }
 
     /// How many of the first words have an owner.
     pub fn owned_below(&self, size: u16) -> u16
         ensures { result ≡ owned_among (view P.words self.now) (below size) }
     {
-        let mut owned = 0;
-        for word in 0..size {
-            owned += self.owner(word).is_some() as u16;
-        }
-        owned
+        owned_first(&self.owners, size)
     }
 }
