@@ -1,6 +1,6 @@
 -- The end of a phase goes through all entries, and what it leaves of each is what the rules leave of its copy. Registered
 -- entries stay, so every owner still holds its word. Assumes nothing.
-use Rattle.std.proofs.Common.{◌≡◌, ℕ, zero, suc, ◌+◌, ◌<◌, ◌≤◌, Bool, true, false, cond, ◌&&◌, eqb, ltb, List, [], ◌∷◌, ◌++◌, map, length, get_or, set, Option, sym, refl, ap, ◌∙◌, add-one, arith, below_more}
+use Rattle.std.proofs.Common.{◌≡◌, ℕ, zero, suc, ◌+◌, ◌<◌, ◌≤◌, Bool, true, false, cond, ◌&&◌, ltb, List, [], ◌∷◌, ◌++◌, map, length, get_or, set, Option, sym, refl, ap, ◌∙◌, add-one, arith, below_more}
 use Rattle.std.proofs.lemmas.List.{length-map, length-set, get_or-set_same, get_or-set_other, get_or_default, ext_get_or}
 use Rattle.std.specs.Int.{from_bool}
 use Rattle.word.specs.declared.word.Word.{Word}
@@ -10,14 +10,13 @@ use Rattle.rules.specs.Effects.{Place, places, tally, dropped, faded}
 use Rattle.rules.specs.State.{invalid, valid, registered}
 use Rattle.memory.specs.Entries.{copy_in, copy_by, empty, turned, state_after, done_by, is_dropped}
 use Rattle.memory.specs.Modes.{goes, left_by, drops}
-use Rattle.memory.specs.Owners.{Core, seat, is_registered, counts_for}
+use Rattle.memory.specs.Owners.{Core, seat}
 use Rattle.memory.specs.Views.{copies_of, memory_of}
 use Rattle.memory.specs.Walks.{place_at, within, walked}
 use Rattle.memory.specs.declared.entry.Entry.{Entry}
 use Rattle.memory.specs.declared.entry.Event.TheVariants.{Fade}
 use Rattle.memory.specs.declared.entry.State.{State}
 use Rattle.memory.specs.declared.entry.State.TheVariants.{Invalid, Valid, Registered}
-use Rattle.memory.proofs.Owned.{Sound, owned_kept}
 use Rattle.memory.proofs.Settles.{copy_at}
 use Rattle.memory.proofs.Views.{same_memory}
 use Rattle.memory.proofs.Walks.{walked_in, walked_past, tally_more, one_of, one_most}
@@ -72,38 +71,10 @@ module _ (f : Five) (plan : ℕ) where
       go true = refl
       go false = refl
 
-  -- an entry that counts for a word still does
-  left_counts : (w : ℕ) (e : Entry) → counts_for w e ≡ true → counts_for w (left_by f plan e) ≡ true
-  left_counts w e h = go (goes f plan e.place.number)
-    where
-      kept : (s : State) → (is_registered s && eqb e.place.number w) ≡ true → (is_registered (state_after s Fade) && eqb e.place.number w) ≡ true
-      kept Invalid t = t
-      kept Valid t = t
-      kept Registered t = t
-
-      go : (b : Bool) → counts_for w (cond b (turned e Fade) e) ≡ true
-      go true = kept e.state h
-      go false = h
-
   at_left : (es : List Entry) (k : ℕ) → get_or (map (left_by f plan) es) k empty ≡ left_by f plan (get_or es k empty)
   at_left [] k = sym left_empty
   at_left (e ∷ es) zero = refl
   at_left (e ∷ es) (suc k) = at_left es k
-
-  -- every owner still holds its word
-  pub faded_sound : (es es' : List Entry) (os : List (Option Core)) → es' ≡ map (left_by f plan) es → Sound f es os → Sound f es' os
-  faded_sound es es' os e s = rw e after
-    where
-      after : Sound f (map (left_by f plan) es) os
-      after =
-          record {
-            caches = length-map es (left_by f plan) ∙ s.caches;
-            words = s.words;
-            owned =
-                owned_kept f es (map (left_by f plan) es) os
-                (λ w k h. ap (counts_for w) (at_left es k) ∙ left_counts w (get_or es k empty) h)
-                s.owned;
-          }
 
   faded_at : (es : List Entry) (c i : ℕ) → copies_of (map (left_by f plan) es) c i ≡ faded f plan (copies_of es c i)
   unfolding copies_of
@@ -176,11 +147,7 @@ module _ (f : Five) (plan : ℕ) where
           let walk : tally (test es) (walked f (suc at)) ≡ tally (test es) (walked f at) = ap (tally (test es)) (walked_past f at e) in
           omega (arith, s.counted, walk, nil)
 
-  pub fading_all : (es fs : List Entry) (at count : ℕ) → at ≡ 512 → length es ≡ 512 → Fading es fs at count → record { after : fs ≡ map (left_by f plan) es; answer : count ≡ tally (λ p. dropped f plan (copies_of es p.core p.slot)) (walked f 512) }
+  pub fading_all : (es fs : List Entry) (at count : ℕ) → at ≡ 512 → length es ≡ 512 → Fading es fs at count → fs ≡ map (left_by f plan) es
   fading_all es fs at count e long s =
-      record {
-        after =
-            ext_get_or empty fs (map (left_by f plan) es) (s.long ∙ sym (length-map es (left_by f plan)))
-            (λ k h. s.done k (omega (arith, s.long)) ∙ sym (at_left es k));
-        answer = s.counted ∙ ap (λ (k : ℕ). tally (test es) (walked f k)) e;
-      }
+      ext_get_or empty fs (map (left_by f plan) es) (s.long ∙ sym (length-map es (left_by f plan)))
+      (λ k h. s.done k (omega (arith, s.long)) ∙ sym (at_left es k))

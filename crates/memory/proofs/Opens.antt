@@ -1,12 +1,10 @@
 -- Tables that are just made hold nothing, and the count of owned words goes word by word. Assumes nothing.
 use Rattle.std.proofs.Common.{◌≡◌, ℕ, zero, suc, ◌+◌, ◌<◌, ◌≤◌, Bool, true, false, cond, ltb, List, [], ◌∷◌, ◌++◌, length, get_or, replicate, is_some, take, count_by, Some, None, Option, sym, refl, ap, ◌∙◌, add-one, arith}
-use lib.ListN.{length-replicate}
 use mathlib.Core.HLevel.{is_prop→PathP}
 use denote.Struct.Props.{props}
 use Rattle.std.proofs.lemmas.List.{get_or_past, take_all}
 use Rattle.std.proofs.lemmas.List.Sums.{count_by_more_yes, count_by_more_no}
 use Rattle.std.proofs.lemmas.Bool.{ltb-true, ltb-false}
-use Rattle.std.specs.Int.{from_bool}
 use Rattle.std.specs.Option.{option_map}
 use Rattle.word.specs.Words.{blank_word}
 use Rattle.word.specs.declared.word.Word.{Word}
@@ -20,9 +18,8 @@ use Rattle.memory.specs.Views.{copies_of, owner_number, owners_of, memory_of}
 use Rattle.memory.specs.declared.bounds.Below.{Below}
 use Rattle.memory.specs.declared.entry.Entry.{Entry}
 use Rattle.memory.specs.declared.entry.State.TheVariants.{Invalid}
-use Rattle.memory.proofs.Owned.{Sound}
+use Rattle.memory.proofs.Owned.{Owned}
 use Rattle.memory.proofs.Views.{same_memory}
-use Rattle.memory.proofs.Walks.{one_of, one_most}
 
 -- a table that is filled with its default reads as that everywhere
 filled : {X : Type 0} (n : ℕ) (x : X) (k : ℕ) → get_or (replicate n x) k x ≡ x
@@ -39,13 +36,9 @@ same_below {limit = limit} n m e =
 pub blank_entry : (e : Entry) → e.state ≡ Invalid → e.place.number ≡ 0 → e.word ≡ blank_word → e ≡ empty
 blank_entry e state place word = λ i. record { state = state i; place = same_below e.place empty.place place i; word = word i }
 
-pub open_sound : (f : Five) (n k : ℕ) (es : List Entry) (os : List (Option Core)) → n ≡ 512 → k ≡ 4096 → es ≡ replicate n empty → os ≡ replicate k None → Sound f es os
-open_sound f n k es os ne ke ee oe =
-    record {
-      caches = ap length ee ∙ (length-replicate n empty ∙ ne);
-      words = ap length oe ∙ (length-replicate k None ∙ ke);
-      owned = λ w. ap (λ (l : List (Option Core)). holds f es w (get_or l w None)) oe ∙ ap (holds f es w) (filled k None w);
-    }
+-- tables that hold nothing have no owner
+pub open_owned : (f : Five) (k : ℕ) (es : List Entry) → Owned f es (replicate k None)
+open_owned f k es w = ap (holds f es w) (filled k None w)
 
 no_copy : (n c i : ℕ) → copies_of (replicate n empty) c i ≡ invalid
 unfolding copies_of

@@ -5,9 +5,6 @@ use Rattle.std.proofs.lemmas.List.{get_or_past}
 use Rattle.std.proofs.lemmas.Bool.{ltb-false}
 use Rattle.page.specs.Pages.{read_answer, outside}
 use Rattle.page.specs.declared.outside.Outside.{Outside}
-use Rattle.word.proofs.Marks.{same_mark}
-use Rattle.word.specs.Marks.{number, mark_at}
-use Rattle.word.specs.declared.mark.Mark.{Mark}
 use Rattle.word.specs.declared.word.Word.{Word}
 use Rattle.rules.specs.State.{unmarked, opened}
 use Rattle.word.specs.Words.{blank_word}

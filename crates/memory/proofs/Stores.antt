@@ -1,8 +1,8 @@
 -- A store on the lists is the rules' store. After the write back the slot holds no registered copy, so its core is not the
 -- word's owner, and whoever is loses the copy. Assumes nothing.
-use Rattle.std.proofs.Common.{◌≡◌, ℕ, ◌<◌, Bool, true, false, cond, ◌&&◌, eqb, ltb, List, length, get_or, set, Some, None, Option, sym, refl, ap, ◌∙◌, ⊎_elim, arith, length-set}
-use Rattle.std.proofs.lemmas.List.{get_or-set_same, get_or-set_other, set-get_or, set-set}
-use Rattle.std.proofs.lemmas.Bool.{eq-eqb, ne_eqb, lt-ltb, ltb-true, cond-false, cases_eq, both_ways}
+use Rattle.std.proofs.Common.{◌≡◌, ℕ, ◌<◌, Bool, true, false, cond, ◌&&◌, eqb, List, length, get_or, set, Some, None, Option, sym, refl, ap, ◌∙◌, ⊎_elim, arith, length-set}
+use Rattle.std.proofs.lemmas.List.{get_or-set_same, set-set}
+use Rattle.std.proofs.lemmas.Bool.{eq-eqb, ne_eqb, cond-false, both_ways}
 use Rattle.word.specs.declared.word.Word.{Word}
 use Rattle.call.specs.Figures.{Five, slot_of}
 use Rattle.rules.specs.Effects.{Put, write_back, claim, claim_by, claim_from, claimed, with_copy, write_back_by, is_registered as counts}
@@ -14,50 +14,32 @@ use Rattle.memory.specs.Owners.{Core, Place, seat, index_of, is_registered, coun
 use Rattle.memory.specs.Views.{copies_of, owner_number, owners_of, memory_of, source_by, taken_by, page_after, owners_after, view}
 use Rattle.memory.specs.declared.bounds.Seat.{Seat}
 use Rattle.memory.specs.declared.entry.Entry.{Entry}
-use Rattle.memory.specs.declared.entry.Event.TheVariants.{Settle, Evict, Taken}
+use Rattle.memory.specs.declared.entry.Event.TheVariants.{Evict, Taken}
 use Rattle.memory.specs.declared.entry.State.{State}
 use Rattle.memory.specs.declared.entry.State.TheVariants.{Invalid, Valid, Registered}
 use Rattle.memory.specs.declared.memory.Memory.{Memory as Tables}
-use Rattle.memory.proofs.Loads.{settled_idle}
-use Rattle.memory.proofs.Owned.{Sound, Owned, owned_kept, owned_set, kept_set, counts_not, counts_own}
+use Rattle.memory.proofs.Owned.{Owned, owned_kept, owned_set, kept_set, counts_not, counts_own}
 use Rattle.memory.proofs.Views.{copies_at, copies_set, owners_set, same_memory, seat_below, limited}
 
 -- the registered copy of a word
 abbrev pub stored_in : Place → Word → Entry
 stored_in w x = record { state = Registered; place = w; word = x }
 
-module _ (f : Five) (es : List Entry) (os : List (Option Core)) (c : Core) (w : Place) (at : ℕ) (x : Word) (s : Sound f es os) (seated : at ≡ seat c.number (slot_of f w.number)) (within : at < 512) where
-  inside : at < length es
-  inside = omega (arith, s.caches)
-
+module _ (f : Five) (es : List Entry) (os : List (Option Core)) (c : Core) (w : Place) (at : ℕ) (x : Word) (inside : at < length es) (owned : Owned f es os) (seated : at ≡ seat c.number (slot_of f w.number)) where
   -- another word in the registered copy
-  pub rewrite_sound : counts_for w.number (get_or es (seat c.number (slot_of f w.number)) empty) ≡ true → Sound f (set es at (stored_in w x)) os
-  rewrite_sound here =
-      record {
-        caches = length-set es at (stored_in w x) ∙ s.caches;
-        words = s.words;
-        owned =
-            owned_kept f es (set es at (stored_in w x)) os
-            (λ v. kept_set es at (stored_in w x) v inside (λ h. eq-eqb w.number v (sym (counts_own w.number (get_or es at empty) (ap (λ (k : ℕ). counts_for w.number (get_or es k empty)) seated ∙ here)) ∙ counts_own v (get_or es at empty) h)))
-            s.owned;
-      }
+  pub rewrite_owned : counts_for w.number (get_or es (seat c.number (slot_of f w.number)) empty) ≡ true → Owned f (set es at (stored_in w x)) os
+  rewrite_owned here =
+      owned_kept f es (set es at (stored_in w x)) os
+      (λ v. kept_set es at (stored_in w x) v inside (λ h. eq-eqb w.number v (sym (counts_own w.number (get_or es at empty) (ap (λ (k : ℕ). counts_for w.number (get_or es k empty)) seated ∙ here)) ∙ counts_own v (get_or es at empty) h)))
+      owned
 
   -- a registered copy where there was none, and its owner
-  pub register_sound : is_registered (get_or es at empty).state ≡ false → Sound f (set es at (stored_in w x)) (set os w.number (Some c))
-  register_sound idle =
-      record {
-        caches = length-set es at (stored_in w x) ∙ s.caches;
-        words = length-set os w.number (Some c) ∙ s.words;
-        owned =
-            owned_set f es (set es at (stored_in w x)) os w.number (Some c) (omega (arith, s.words, limited w))
-            (λ v ne. kept_set es at (stored_in w x) v inside (λ h. counts_not v (get_or es at empty) idle h))
-            (ap (λ (k : ℕ). counts_for w.number (get_or (set es at (stored_in w x)) k empty)) (sym seated) ∙ (ap (counts_for w.number) (get_or-set_same es at (stored_in w x) empty inside) ∙ eq-eqb w.number w.number refl))
-            s.owned;
-      }
-
--- a word without an owner
-pub set_none : (os : List (Option Core)) (w : ℕ) → get_or os w None ≡ None → os ≡ set os w None
-set_none os w e = sym (set-get_or os w None) ∙ ap (set os w) e
+  pub register_owned : length os ≡ 4096 → is_registered (get_or es at empty).state ≡ false → Owned f (set es at (stored_in w x)) (set os w.number (Some c))
+  register_owned long idle =
+      owned_set f es (set es at (stored_in w x)) os w.number (Some c) (omega (arith, limited w))
+      (λ v ne. kept_set es at (stored_in w x) v inside (λ h. counts_not v (get_or es at empty) idle h))
+      (ap (λ (k : ℕ). counts_for w.number (get_or (set es at (stored_in w x)) k empty)) (sym seated) ∙ (ap (counts_for w.number) (get_or-set_same es at (stored_in w x) empty inside) ∙ eq-eqb w.number w.number refl))
+      owned
 
 taken_state : (s : State) → state_after s Taken ≡ Invalid
 taken_state Invalid = refl
@@ -67,23 +49,6 @@ taken_state Registered = refl
 -- an entry that is taken holds nothing
 taken_copy : (e : Entry) → copy_in (turned e Taken) ≡ invalid
 taken_copy e = ap (λ (s : State). copy_by s e.place.number e.word) (taken_state e.state)
-
--- a slot without a registered copy still has none when a word is taken
-pub taken_idle : (o : Option Core) (f : Five) (es : List Entry) (w at : ℕ) → at < length es → is_registered (get_or es at empty).state ≡ false → is_registered (get_or (taken_by o f es w) at empty).state ≡ false
-taken_idle None f es w at inside idle = idle
-taken_idle (Some d) f es w at inside idle =
-    let s = seat d.number (slot_of f w) in
-    let e = turned (get_or es s empty) Taken in
-    ⊎_elim
-    (λ p. ap (λ (k : ℕ). is_registered (get_or (set es k (turned (get_or es k empty) Taken)) at empty).state) (sym p) ∙ (ap (λ (y : Entry). is_registered y.state) (get_or-set_same es at (turned (get_or es at empty) Taken) empty inside) ∙ ap is_registered (taken_state (get_or es at empty).state)))
-    (λ ne. ap (λ (y : Entry). is_registered y.state) (get_or-set_other es s at e empty ne) ∙ idle)
-    (cases_eq at s)
-
--- the same after a write back, by what each step leaves
-pub taken_idle_after : (g : Five) (es ea et : List Entry) (o : Option Core) (w at : ℕ) → at < length es → at < length ea → ea ≡ set es at (turned (get_or es at empty) Settle) → et ≡ taken_by o g ea w → is_registered (get_or et at empty).state ≡ false
-taken_idle_after g es ea et o w at in_e in_a ae te =
-    ap (λ (l : List Entry). is_registered (get_or l at empty).state) te
-    ∙ taken_idle o g ea w at in_a (settled_idle es ea at in_e ae)
 
 module _ (f : Five) (ps : List Word) (es : List Entry) (os : List (Option Core)) (c : Core) (w : Place) (x : Word) (few : slot_of f w.number < 64) (long : length es ≡ 512) (fits : w.number < length os) (owned : Owned f es os) (idle : is_registered (get_or es (seat c.number (slot_of f w.number)) empty).state ≡ false) where
   owners_left : owners_of (set (set os w.number None) w.number (Some c)) ≡ upd (owners_of os) w.number (Some c.number)
@@ -117,15 +82,15 @@ module _ (f : Five) (ps : List Word) (es : List Entry) (os : List (Option Core))
           (same_memory _ _ _ _ _ _ refl two owners_left ∙ ap (λ (k : Put). k.memory) (sym put), ap (λ (k : Put). k.answer) (sym put))
 
 -- the three steps of a claim, by what each leaves: figures f as it began, g after the write back
-pub claim_steps : (f g : Five) (m : Memory) (ps pt ps' : List Word) (es et es' : List Entry) (os ot os' : List (Option Core)) (at : Seat) (c : ℕ) (w : Place) (answer : ℕ) (x : Word) → g ≡ f → at.core.number ≡ c → at.slot.number ≡ slot_of f w.number → Sound g es os → is_registered (get_or es (index_of at) empty).state ≡ false → memory_of ps es os ≡ write_back m at.core.number at.slot.number → answer ≡ source_by (get_or os w.number None) → pt ≡ ps → et ≡ taken_by (get_or os w.number None) g es w.number → ot ≡ set os w.number None → ps' ≡ pt → es' ≡ set et (index_of at) (stored_in w x) → os' ≡ set ot w.number (Some at.core) → record { answer : answer ≡ (claim f m c w.number x).answer; after : memory_of ps' es' os' ≡ (claim f m c w.number x).memory }
-claim_steps f g m ps pt ps' es et es' os ot os' at c w answer x gf cf sf s idle made ae pe ee oe pe' ee' oe' =
+pub claim_steps : (f g : Five) (m : Memory) (ps pt ps' : List Word) (es et es' : List Entry) (os ot os' : List (Option Core)) (at : Seat) (c : ℕ) (w : Place) (answer : ℕ) (x : Word) → g ≡ f → at.core.number ≡ c → at.slot.number ≡ slot_of f w.number → length es ≡ 512 → length os ≡ 4096 → Owned g es os → is_registered (get_or es (index_of at) empty).state ≡ false → memory_of ps es os ≡ write_back m at.core.number at.slot.number → answer ≡ source_by (get_or os w.number None) → pt ≡ ps → et ≡ taken_by (get_or os w.number None) g es w.number → ot ≡ set os w.number None → ps' ≡ pt → es' ≡ set et (index_of at) (stored_in w x) → os' ≡ set ot w.number (Some at.core) → record { answer : answer ≡ (claim f m c w.number x).answer; after : memory_of ps' es' os' ≡ (claim f m c w.number x).memory }
+claim_steps f g m ps pt ps' es et es' os ot os' at c w answer x gf cf sf caches words owned idle made ae pe ee oe pe' ee' oe' =
     let k = at.core.number in
     let here : index_of at ≡ seat k (slot_of f w.number) = ap (seat k) sf in
     let fw : slot_of f w.number < 64 = rw (sym sf) (limited at.slot) in
     let idle_f : is_registered (get_or es (seat k (slot_of f w.number)) empty).state ≡ false = ap (λ (j : ℕ). is_registered (get_or es j empty).state) (sym here) ∙ idle in
-    let owned_f : Owned f es os = rw (sym gf) s.owned in
+    let owned_f : Owned f es os = rw (sym gf) owned in
     let base : memory_of ps es os ≡ write_back m k (slot_of f w.number) = made ∙ ap (write_back m k) sf in
-    let both = claimed_lists f ps es os at.core w x fw s.caches (omega (arith, s.words, limited w)) owned_f idle_f in
+    let both = claimed_lists f ps es os at.core w x fw caches (omega (arith, words, limited w)) owned_f idle_f in
     let et_f : et ≡ taken_by (get_or os w.number None) f es w.number = ee ∙ ap (λ (j : Five). taken_by (get_or os w.number None) j es w.number) gf in
     let es_f : es' ≡ set (taken_by (get_or os w.number None) f es w.number) (seat k (slot_of f w.number)) (stored_in w x) = ee' ∙ ap (λ (j : ℕ). set et j (stored_in w x)) here ∙ ap (λ (l : List Entry). set l (seat k (slot_of f w.number)) (stored_in w x)) et_f in
     let os_f : os' ≡ set (set os w.number None) w.number (Some at.core) = oe' ∙ ap (λ (l : List (Option Core)). set l w.number (Some at.core)) oe in

@@ -11,8 +11,8 @@ use Rattle.rules.specs.Effects.{write_back, write_back_by}
 use Rattle.rules.specs.State.{Copy, invalid, valid, registered, Memory, of_word, copy_of}
 use Rattle.rules.specs.Tables.{upd, upd2}
 use Rattle.rules.proofs.Tables.{upd_cases, upd2_cases}
-use Rattle.memory.specs.Entries.{copy_in, copy_by, empty, turned, state_after, done_by, is_written}
-use Rattle.memory.specs.Owners.{Core, seat, index_of, is_registered}
+use Rattle.memory.specs.Entries.{copy_in, copy_by, empty, turned, state_after, done_by}
+use Rattle.memory.specs.Owners.{Core, seat, index_of}
 use Rattle.memory.specs.Views.{copies_of, owner_number, owners_of, memory_of, page_after, owners_after, state_for, view}
 use Rattle.memory.specs.declared.bounds.Below.{Below}
 use Rattle.memory.specs.declared.bounds.Seat.{Seat}
@@ -103,11 +103,6 @@ pub settled_after : {P : Type 0} (words : P → List Word) (m : Tables P) (ps : 
 settled_after words m ps es os at a b d =
     same_memory _ _ _ _ _ _ a (ap copies_of b) (ap owners_of d)
     ∙ settled (words m.page) m.entries m.owners at.core.number at.slot.number (omega (arith, m.caches, seat_below at)) (limited at.slot) (omega (arith, m.words, limited (get_or m.entries (index_of at) empty).place))
-
-pub settle_writes : (s : State) → is_written (done_by s Settle) ≡ is_registered s
-settle_writes Invalid = refl
-settle_writes Valid = refl
-settle_writes Registered = refl
 
 -- an entry looked at for a word
 pub copy_for : (w : ℕ) (e : Entry) → of_word w (copy_in e) ≡ copy_by (state_for w e) w e.word

@@ -26,7 +26,9 @@ fn fade_at(figures: &Figures, plan: u64, at: usize, held: &mut Entry) -> bool
     ensures after { held.new ≡ left_by (numbers figures.now) plan held.old }
     ensures answer { result ≡ drops (numbers figures.now) plan held.old && within (numbers figures.now) at }
 {
-    goes_at_end(figures, plan, held.place) && held.turn(Event::Fade).is_dropped() && is_within(figures, at)
+    goes_at_end(figures, plan, held.place)
+        && held.turn(Event::Fade).is_dropped()
+        && is_within(figures, at)
 }
 
 // The end of a phase at all entries: how many copies are dropped in the slots that the figures have.

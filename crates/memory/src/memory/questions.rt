@@ -17,7 +17,11 @@ use word::Word;
 fn owned_first(owners: &[Option<Core>], size: u16) -> u16
     ensures { result ≡ count_by is_some (take size owners.now) }
 {
-    owners.iter().take(size as usize).filter(|owner| owner.is_some()).count() as u16
+    owners
+        .iter()
+        .take(size as usize)
+        .filter(|owner| owner.is_some())
+        .count() as u16
 }
 
 impl<P: PageStore> Memory<P> {

@@ -1,14 +1,10 @@
 use Rattle.std.proofs.Common.{arith}
 use Rattle.call.specs.Figures.{figures}
 use Rattle.memory.proofs.Fades.{fading_none, fading_more, fading_all}
-use Rattle.memory.proofs.Walks.{one_most}
 use Rattle.memory.proofs.memory.fades.fade_all.Goals as goal
 
 pub loop-at-init : goal.loop-at-init
 loop-at-init c = fading_none (figures c.args.figures.now) c.args.plan c.args.entries.now
-
-pub overflow_add-dropped : goal.overflow_add-dropped
-overflow_add-dropped c = omega (arith, c.loop-at.invariant.small, one_most c.fade_at.result, c.requires)
 
 pub loop-at-preserved : goal.loop-at-preserved
 loop-at-preserved c =
@@ -18,6 +14,6 @@ loop-at-preserved c =
     c.fade_at.ensures.answer
     c.loop-at.invariant
 
-pub returns : goal.returns
-returns c =
+pub returns-clause-after : goal.returns-clause-after
+returns-clause-after c =
     fading_all (figures c.args.figures.now) c.args.plan c.args.entries.now c.loop-at.entries c.loop-at.at c.loop-at.dropped (omega arith) c.requires c.loop-at.invariant
