@@ -29,8 +29,7 @@ impl<P: PageStore> Memory<P> {
     pub fn figures(&self) -> Figures
         ensures { result ≡ self.now.figures }
     {
-        let figures = self.figures;
-        figures
+        self.figures
     }
 
     /// How many words it has: as many as its figures allow and its page has.
