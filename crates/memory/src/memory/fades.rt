@@ -52,7 +52,6 @@ impl<P: PageStore> Memory<P> {
         ensures answer { result ≡ (rule (five_of self.old) plan (view P.words self.old)).answer }
         ensures after { view P.words self.new ≡ (rule (five_of self.old) plan (view P.words self.old)).memory }
     {
-        let figures = self.figures;
-        fade_all(&figures, plan, &mut self.entries)
+        fade_all(&self.figures, plan, &mut self.entries)
     }
 }
