@@ -1,7 +1,8 @@
 -- The end of a phase goes through all entries, and what it leaves of each is what the rules leave of its copy. Registered
 -- entries stay, so every owner still holds its word. Assumes nothing.
-use Rattle.std.proofs.Common.{◌≡◌, ℕ, zero, suc, ◌+◌, ◌<◌, ◌≤◌, Bool, true, false, cond, ◌&&◌, eqb, ltb, List, [], ◌∷◌, ◌++◌, map, length, get_or, set, Option, sym, refl, ap, ◌∙◌, add-one, arith, below_more}
+use Rattle.std.proofs.Common.{◌≡◌, ℕ, zero, suc, ◌+◌, ◌<◌, ◌≤◌, Bool, true, false, cond, ◌&&◌, ltb, List, [], ◌∷◌, ◌++◌, map, length, get_or, set, Option, sym, refl, ap, ◌∙◌, add-one, arith, below_more}
 use Rattle.std.proofs.lemmas.List.{length-map, length-set, get_or-set_same, get_or-set_other, get_or_default, ext_get_or}
+use Rattle.std.specs.Int.{from_bool}
 use Rattle.word.specs.declared.word.Word.{Word}
 use Rattle.call.specs.Figures.{Five}
 use Rattle.rules.specs.Effects as effect
@@ -9,41 +10,40 @@ use Rattle.rules.specs.Effects.{Place, places, tally, dropped, faded}
 use Rattle.rules.specs.State.{invalid, valid, registered}
 use Rattle.memory.specs.Entries.{copy_in, copy_by, empty, turned, state_after, done_by, is_dropped}
 use Rattle.memory.specs.Modes.{goes, left_by, drops}
-use Rattle.memory.specs.Owners.{Core, seat, is_registered, counts_for}
+use Rattle.memory.specs.Owners.{Core, seat}
 use Rattle.memory.specs.Views.{copies_of, memory_of}
 use Rattle.memory.specs.Walks.{place_at, within, walked}
 use Rattle.memory.specs.declared.entry.Entry.{Entry}
 use Rattle.memory.specs.declared.entry.Event.TheVariants.{Fade}
 use Rattle.memory.specs.declared.entry.State.{State}
 use Rattle.memory.specs.declared.entry.State.TheVariants.{Invalid, Valid, Registered}
-use Rattle.memory.proofs.Owned.{Sound, owned_kept}
 use Rattle.memory.proofs.Settles.{copy_at}
 use Rattle.memory.proofs.Views.{same_memory}
-use Rattle.memory.proofs.Walks.{walked_in, walked_past, tally_more}
+use Rattle.memory.proofs.Walks.{walked_in, walked_past, tally_more, one_of, one_most}
 
 module _ (f : Five) (plan : ℕ) where
   -- what is left of an entry is what is left of its copy
   left_copy : (e : Entry) → copy_in (left_by f plan e) ≡ faded f plan (copy_in e)
-  left_copy e = shape (goes f plan e.place) ∙ go e.state
+  left_copy e = shape (goes f plan e.place.number) ∙ go e.state
     where
-      shape : (b : Bool) → copy_in (cond b (turned e Fade) e) ≡ copy_by (cond b (state_after e.state Fade) e.state) e.place e.word
+      shape : (b : Bool) → copy_in (cond b (turned e Fade) e) ≡ copy_by (cond b (state_after e.state Fade) e.state) e.place.number e.word
       shape true = refl
       shape false = refl
 
-      go : (s : State) → copy_by (cond (goes f plan e.place) (state_after s Fade) s) e.place e.word ≡ faded f plan (copy_by s e.place e.word)
-      go Invalid = same (goes f plan e.place)
+      go : (s : State) → copy_by (cond (goes f plan e.place.number) (state_after s Fade) s) e.place.number e.word ≡ faded f plan (copy_by s e.place.number e.word)
+      go Invalid = same (goes f plan e.place.number)
         where
-          same : (b : Bool) → copy_by (cond b Invalid Invalid) e.place e.word ≡ invalid
+          same : (b : Bool) → copy_by (cond b Invalid Invalid) e.place.number e.word ≡ invalid
           same true = refl
           same false = refl
-      go Valid = same (goes f plan e.place)
+      go Valid = same (goes f plan e.place.number)
         where
-          same : (b : Bool) → copy_by (cond b Invalid Valid) e.place e.word ≡ cond b invalid (valid e.place e.word)
+          same : (b : Bool) → copy_by (cond b Invalid Valid) e.place.number e.word ≡ cond b invalid (valid e.place.number e.word)
           same true = refl
           same false = refl
-      go Registered = same (goes f plan e.place)
+      go Registered = same (goes f plan e.place.number)
         where
-          same : (b : Bool) → copy_by (cond b Registered Registered) e.place e.word ≡ registered e.place e.word
+          same : (b : Bool) → copy_by (cond b Registered Registered) e.place.number e.word ≡ registered e.place.number e.word
           same true = refl
           same false = refl
 
@@ -59,17 +59,10 @@ module _ (f : Five) (plan : ℕ) where
       all true = refl
       all false = refl
 
-      go : (s : State) → (goes f plan e.place && is_dropped (done_by s Fade)) ≡ dropped f plan (copy_by s e.place e.word)
-      go Invalid = none (goes f plan e.place)
-      go Valid = all (goes f plan e.place)
-      go Registered = none (goes f plan e.place)
-
-  left_place : (e : Entry) → (left_by f plan e).place ≡ e.place
-  left_place e = go (goes f plan e.place)
-    where
-      go : (b : Bool) → (cond b (turned e Fade) e).place ≡ e.place
-      go true = refl
-      go false = refl
+      go : (s : State) → (goes f plan e.place.number && is_dropped (done_by s Fade)) ≡ dropped f plan (copy_by s e.place.number e.word)
+      go Invalid = none (goes f plan e.place.number)
+      go Valid = all (goes f plan e.place.number)
+      go Registered = none (goes f plan e.place.number)
 
   left_empty : left_by f plan empty ≡ empty
   left_empty = go (goes f plan 0)
@@ -78,39 +71,10 @@ module _ (f : Five) (plan : ℕ) where
       go true = refl
       go false = refl
 
-  -- an entry that counts for a word still does
-  left_counts : (w : ℕ) (e : Entry) → counts_for w e ≡ true → counts_for w (left_by f plan e) ≡ true
-  left_counts w e h = go (goes f plan e.place)
-    where
-      kept : (s : State) → (is_registered s && eqb e.place w) ≡ true → (is_registered (state_after s Fade) && eqb e.place w) ≡ true
-      kept Invalid t = t
-      kept Valid t = t
-      kept Registered t = t
-
-      go : (b : Bool) → counts_for w (cond b (turned e Fade) e) ≡ true
-      go true = kept e.state h
-      go false = h
-
   at_left : (es : List Entry) (k : ℕ) → get_or (map (left_by f plan) es) k empty ≡ left_by f plan (get_or es k empty)
   at_left [] k = sym left_empty
   at_left (e ∷ es) zero = refl
   at_left (e ∷ es) (suc k) = at_left es k
-
-  -- every owner still holds its word
-  pub faded_sound : (es es' : List Entry) (os : List (Option Core)) → es' ≡ map (left_by f plan) es → Sound f es os → Sound f es' os
-  faded_sound es es' os e s = rw e after
-    where
-      after : Sound f (map (left_by f plan) es) os
-      after =
-          record {
-            caches = length-map es (left_by f plan) ∙ s.caches;
-            words = s.words;
-            placed = λ k. ap (λ (x : Entry). ltb x.place 4096) (at_left es k) ∙ (ap (λ (n : ℕ). ltb n 4096) (left_place (get_or es k empty)) ∙ s.placed k);
-            owned =
-                owned_kept f es (map (left_by f plan) es) os
-                (λ w k h. ap (counts_for w) (at_left es k) ∙ left_counts w (get_or es k empty) h)
-                s.owned;
-          }
 
   faded_at : (es : List Entry) (c i : ℕ) → copies_of (map (left_by f plan) es) c i ≡ faded f plan (copies_of es c i)
   unfolding copies_of
@@ -140,8 +104,8 @@ module _ (f : Five) (plan : ℕ) where
   unfolding walked
   fading_none es = record { done = λ k h. absurd (omega arith); rest = λ k h. refl; counted = refl; small = omega arith; long = refl }
 
-  pub fading_more : (es fs : List Entry) (at count added : ℕ) (held d : Entry) → at < length es → held ≡ left_by f plan (get_or fs at d) → added ≡ cond {A = ℕ} (drops f plan (get_or fs at d) && within f at) 1 0 → added ≤ 1 → Fading es fs at count → Fading es (set fs at held) (at + 1) (count + added)
-  fading_more es fs at count added held d inside he ae few s =
+  pub fading_more : (es fs : List Entry) (at count : ℕ) (gone : Bool) (held d : Entry) → at < length es → held ≡ left_by f plan (get_or fs at d) → gone ≡ (drops f plan (get_or fs at d) && within f at) → Fading es fs at count → Fading es (set fs at held) (at + 1) (count + from_bool gone)
+  fading_more es fs at count gone held d inside he ge s =
       record {
         done =
             below_more _ _
@@ -149,7 +113,7 @@ module _ (f : Five) (plan : ℕ) where
             (get_or-set_same fs at held empty in_fs ∙ (he ∙ ap (left_by f plan) now));
         rest = λ k h. get_or-set_other fs at k held empty (λ e. omega arith) ∙ s.rest k (omega arith);
         counted = ap (λ (n : ℕ). count + n) told ∙ rw add-one (go (within f at) refl);
-        small = omega (arith, s.small);
+        small = omega (arith, s.small, one_most gone);
         long = length-set fs at held ∙ s.long;
       }
     where
@@ -159,9 +123,9 @@ module _ (f : Five) (plan : ℕ) where
       now : get_or fs at d ≡ get_or es at empty
       now = get_or_default fs at d empty in_fs ∙ s.rest at (omega arith)
 
-      told : added ≡ cond {A = ℕ} (test es (place_at at) && within f at) 1 0
+      told : from_bool gone ≡ cond {A = ℕ} (test es (place_at at) && within f at) 1 0
       told =
-          ae
+          one_of gone ∙ ap (λ (b : Bool). cond {A = ℕ} b 1 0) ge
           ∙ ap (λ (b : Bool). cond {A = ℕ} (b && within f at) 1 0) (ap (drops f plan) now ∙ (drops_copy (get_or es at empty) ∙ ap (dropped f plan) (sym (copy_at es at))))
 
       only : (b : Bool) → (b && true) ≡ b
@@ -183,11 +147,7 @@ module _ (f : Five) (plan : ℕ) where
           let walk : tally (test es) (walked f (suc at)) ≡ tally (test es) (walked f at) = ap (tally (test es)) (walked_past f at e) in
           omega (arith, s.counted, walk, nil)
 
-  pub fading_all : (es fs : List Entry) (at count : ℕ) → at ≡ 512 → length es ≡ 512 → Fading es fs at count → record { after : fs ≡ map (left_by f plan) es; answer : count ≡ tally (λ p. dropped f plan (copies_of es p.core p.slot)) (walked f 512) }
+  pub fading_all : (es fs : List Entry) (at count : ℕ) → at ≡ 512 → length es ≡ 512 → Fading es fs at count → fs ≡ map (left_by f plan) es
   fading_all es fs at count e long s =
-      record {
-        after =
-            ext_get_or empty fs (map (left_by f plan) es) (s.long ∙ sym (length-map es (left_by f plan)))
-            (λ k h. s.done k (omega (arith, s.long)) ∙ sym (at_left es k));
-        answer = s.counted ∙ ap (λ (k : ℕ). tally (test es) (walked f k)) e;
-      }
+      ext_get_or empty fs (map (left_by f plan) es) (s.long ∙ sym (length-map es (left_by f plan)))
+      (λ k h. s.done k (omega (arith, s.long)) ∙ sym (at_left es k))

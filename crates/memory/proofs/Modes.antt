@@ -1,6 +1,6 @@
 -- The four bits of a strip by a shift: 4 places a strip are the powers of 16, and past sixteen strips a plan of 64 bits has none.
 -- Assumes nothing.
-use Rattle.std.proofs.Common.{◌≡◌, ℕ, zero, suc, ◌+◌, ◌*◌, ◌/◌, ◌%◌, ◌^◌, ◌<◌, ◌≤◌, Bool, true, false, ◌||◌, [], ◌∷◌, sym, refl, ap, ◌∙◌, ⊎_elim, pow-suc, add-one, arith}
+use Rattle.std.proofs.Common.{◌≡◌, ℕ, zero, suc, ◌+◌, ◌*◌, ◌/◌, ◌%◌, ◌^◌, ◌<◌, ◌≤◌, Bool, true, false, ◌||◌, [], ◌∷◌, sym, refl, ap, ◌∙◌, ⊎_elim, pow-suc, arith}
 use native.Mathlib.Nat.{pow-le-pow_right, div-eq_of_lt}
 use Rattle.std.proofs.lemmas.Nat.{pow-add}
 use Rattle.std.proofs.lemmas.Bool.{or_left, or_right}
@@ -25,11 +25,6 @@ bits_past plan strip fits past =
     let large : 16 ^ 16 ≤ 16 ^ strip = pow-le-pow_right (omega arith) past in
     let less : plan < 16 ^ strip = omega arith in
     ap (λ (k : ℕ). k % 16) (sym (div-eq_of_lt less))
-
--- none of the numbers below n + 1 passes a test where none below n does and n does not
-pub none_more : (test : ℕ → Bool) (n : ℕ) → some_of test (below n) ≡ false → test n ≡ false → some_of test (below (n + 1)) ≡ false
-none_more test n before here =
-    rw add-one (some_of_append test (below n) (n ∷ []) ∙ (λ i. before i || (here i || false)))
 
 -- a number that passes the test is among those below any larger one
 pub some_below : (test : ℕ → Bool) (n m : ℕ) → n < m → test n ≡ true → some_of test (below m) ≡ true

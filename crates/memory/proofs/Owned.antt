@@ -1,27 +1,23 @@
 -- An owner's entry holds its word, registered. That stays so where every entry that counts for a word still counts for it, but
 -- for the one word whose owner is set anew; a turn of the table by which an entry counts no more takes the owner from the word.
 -- Assumes nothing.
-use Rattle.std.proofs.Common.{◌≡◌, ℕ, ◌<◌, true, false, ◌&&◌, eqb, ltb, ◌≢◌, List, length, get_or, set, Some, None, Option, sym, refl, ap, ◌∙◌, ⊎_elim, arith}
-use Rattle.std.proofs.lemmas.List.{get_or-set_same, get_or-set_other, get_or_default, length-set}
-use Rattle.std.proofs.lemmas.Bool.{and_parts, cases_eq, eqb-true, both_ways, ltb-true}
-use Rattle.call.specs.Figures.{Five, figures, slot_of}
+use Rattle.std.proofs.Common.{◌≡◌, ℕ, ◌<◌, true, false, ◌&&◌, eqb, ◌≢◌, List, length, get_or, set, Some, None, Option, sym, refl, ap, ◌∙◌, ⊎_elim, arith}
+use Rattle.std.proofs.lemmas.List.{get_or-set_same, get_or-set_other, get_or_default}
+use Rattle.std.proofs.lemmas.Bool.{and_parts, cases_eq, eqb-true, both_ways}
+use Rattle.call.specs.Figures.{Five, slot_of}
 use Rattle.memory.specs.Entries.{empty, turned, state_after, done_by}
 use Rattle.memory.specs.Owners.{Core, seat, is_registered, counts_for, holds}
 use Rattle.memory.specs.Views.{owners_after}
 use Rattle.memory.specs.declared.entry.Done.{Done}
-use Rattle.memory.specs.declared.entry.Done.TheVariants.{Kept as Idle, Dropped, Written, Taken as Lost}
 use Rattle.memory.specs.declared.entry.Entry.{Entry}
 use Rattle.memory.specs.declared.entry.State.{State}
 use Rattle.memory.specs.declared.entry.State.TheVariants.{Invalid, Valid, Registered}
 use Rattle.memory.specs.declared.entry.Event.{Event}
 use Rattle.memory.specs.declared.entry.Event.TheVariants.{Settle, Evict, Taken, Fade}
-use Rattle.memory.specs.declared.memory.Memory.{Memory as Tables}
+use Rattle.memory.proofs.Views.{limited}
 
 abbrev pub Owned : Five → List Entry → List (Option Core) → Type 0
 Owned f es os = (word : ℕ) → holds f es word (get_or os word None) ≡ true
-
-abbrev pub Placed : List Entry → Type 0
-Placed es = (at : ℕ) → ltb (get_or es at empty).place 4096 ≡ true
 
 -- every entry that counts for a word still counts for it
 abbrev pub Kept : ℕ → List Entry → List Entry → Type 0
@@ -54,26 +50,19 @@ kept_set es at e w inside still k h =
     (λ ne. ap (counts_for w) (get_or-set_other es at k e empty ne) ∙ h)
     (cases_eq k at)
 
-pub placed_set : (es : List Entry) (at : ℕ) (e : Entry) → at < length es → ltb e.place 4096 ≡ true → Placed es → Placed (set es at e)
-placed_set es at e inside fits placed k =
-    ⊎_elim
-    (λ p. ap (λ (j : ℕ). ltb (get_or (set es at e) j empty).place 4096) p ∙ (ap (λ (x : Entry). ltb x.place 4096) (get_or-set_same es at e empty inside) ∙ fits))
-    (λ ne. ap (λ (x : Entry). ltb x.place 4096) (get_or-set_other es at k e empty ne) ∙ placed k)
-    (cases_eq k at)
-
 -- an entry that is not registered counts for no word
 pub counts_not : (w : ℕ) (e : Entry) → is_registered e.state ≡ false → counts_for w e ≡ true → {P : Type 0} → P
 counts_not w e free h =
-    let z : ⊥ = both_ways (is_registered e.state) free (and_parts (is_registered e.state) (eqb e.place w) h).0 in
+    let z : ⊥ = both_ways (is_registered e.state) free (and_parts (is_registered e.state) (eqb e.place.number w) h).0 in
     absurd z
 
 -- an entry counts for its own place alone
-pub counts_own : (w : ℕ) (e : Entry) → counts_for w e ≡ true → e.place ≡ w
-counts_own w e h = eqb-true e.place w (and_parts (is_registered e.state) (eqb e.place w) h).1
+pub counts_own : (w : ℕ) (e : Entry) → counts_for w e ≡ true → e.place.number ≡ w
+counts_own w e h = eqb-true e.place.number w (and_parts (is_registered e.state) (eqb e.place.number w) h).1
 
 -- a turn of the table keeps what an owner holds
-pub turn_owned : (f : Five) (es : List Entry) (os : List (Option Core)) (at : ℕ) (event : Event) → at < length es → length os ≡ 4096 → Placed es → Owned f es os → Owned f (set es at (turned (get_or es at empty) event)) (owners_after (done_by (get_or es at empty).state event) (get_or es at empty) os)
-turn_owned f es os at event inside long placed owned = go (get_or es at empty).state refl event
+pub turn_owned : (f : Five) (es : List Entry) (os : List (Option Core)) (at : ℕ) (event : Event) → at < length es → length os ≡ 4096 → Owned f es os → Owned f (set es at (turned (get_or es at empty) event)) (owners_after (done_by (get_or es at empty).state event) (get_or es at empty) os)
+turn_owned f es os at event inside long owned = go (get_or es at empty).state refl event
   where
     was : Entry
     was = get_or es at empty
@@ -85,9 +74,9 @@ turn_owned f es os at event inside long placed owned = go (get_or es at empty).s
     free s idle =
         owned_kept f es (set es at (left s)) os (λ w. kept_set es at (left s) w inside (λ h. counts_not w was idle h)) owned
 
-    lost : (s : State) → Owned f (set es at (left s)) (set os was.place None)
+    lost : (s : State) → Owned f (set es at (left s)) (set os was.place.number None)
     lost s =
-        owned_set f es (set es at (left s)) os was.place None (omega (arith, ltb-true was.place 4096 (placed at)))
+        owned_set f es (set es at (left s)) os was.place.number None (omega (arith, limited was.place))
         (λ w ne. kept_set es at (left s) w inside (λ h. let z : ⊥ = ne (sym (counts_own w was h)) in absurd z))
         refl
         owned
@@ -103,33 +92,12 @@ turn_owned f es os at event inside long placed owned = go (get_or es at empty).s
     go Registered e Taken = lost Invalid
     go Registered e Fade =
         owned_kept f es (set es at (left Registered)) os
-        (λ w. kept_set es at (left Registered) w inside (λ h. ap (λ (s : State). is_registered s && eqb was.place w) (sym e) ∙ h))
+        (λ w. kept_set es at (left Registered) w inside (λ h. ap (λ (s : State). is_registered s && eqb was.place.number w) (sym e) ∙ h))
         owned
 
--- what the ghost fields of a memory say
-pub record Sound (f : Five) (es : List Entry) (os : List (Option Core)) : Type 0 where
-  pub caches : length es ≡ 512
-  pub words : length os ≡ 4096
-  pub placed : Placed es
-  pub owned : Owned f es os
-
--- what those of this memory say
-pub sound_of : {P : Type 0} (m : Tables P) → Sound (figures m.figures) m.entries m.owners
-sound_of m = record { caches = m.caches; words = m.words; placed = m.placed; owned = m.owned }
-
-owners_long : (d : Done) (e : Entry) (os : List (Option Core)) → length (owners_after d e os) ≡ length os
-owners_long Idle e os = refl
-owners_long Dropped e os = refl
-owners_long Written e os = length-set os e.place None
-owners_long Lost e os = length-set os e.place None
-
--- a turn of the table keeps all of it: what it did is d, which is e in the arm of the code that has come to its end
-pub turn_sound : (f : Five) (es es' : List Entry) (os os' : List (Option Core)) (at : ℕ) (x : Entry) (event : Event) (d e : Done) → Sound f es os → at < 512 → es' ≡ set es at (turned (get_or es at empty) event) → d ≡ done_by (get_or es at empty).state event → d ≡ e → os' ≡ owners_after e (get_or es at x) os → Sound f es' os'
-turn_sound f es es' os os' at x event d e s few a told is b =
-    let inside : at < length es = omega (arith, s.caches) in
+-- the same of what it leaves, by what it did: that is d, which is e in the arm of the code that has come to its end
+pub turned_owned : (f : Five) (es es' : List Entry) (os os' : List (Option Core)) (at : ℕ) (x : Entry) (event : Event) (d e : Done) → at < length es → length os ≡ 4096 → Owned f es os → es' ≡ set es at (turned (get_or es at empty) event) → d ≡ done_by (get_or es at empty).state event → d ≡ e → os' ≡ owners_after e (get_or es at x) os → Owned f es' os'
+turned_owned f es es' os os' at x event d e inside long owned a told is b =
     let here : get_or es at x ≡ get_or es at empty = get_or_default es at x empty inside in
-    let es'' = set es at (turned (get_or es at empty) event) in
-    let os'' = owners_after (done_by (get_or es at empty).state event) (get_or es at empty) os in
-    let left : os' ≡ os'' = b ∙ (ap (λ (k : Done). owners_after k (get_or es at x) os) (sym is ∙ told) ∙ ap (λ (k : Entry). owners_after (done_by (get_or es at empty).state event) k os) here) in
-    let after : Sound f es'' os'' = record { caches = length-set es at (turned (get_or es at empty) event) ∙ s.caches; words = owners_long (done_by (get_or es at empty).state event) (get_or es at empty) os ∙ s.words; placed = placed_set es at (turned (get_or es at empty) event) inside (s.placed at) s.placed; owned = turn_owned f es os at event inside s.words s.placed s.owned } in
-    rw (a, left) after
+    let left : os' ≡ owners_after (done_by (get_or es at empty).state event) (get_or es at empty) os = b ∙ (ap (λ (k : Done). owners_after k (get_or es at x) os) (sym is ∙ told) ∙ ap (λ (k : Entry). owners_after (done_by (get_or es at empty).state event) k os) here) in
+    rw (a, left) (turn_owned f es os at event inside long owned)

@@ -5,16 +5,9 @@ use Rattle.std.proofs.lemmas.List.{get_or_past}
 use Rattle.std.proofs.lemmas.Bool.{ltb-false}
 use Rattle.page.specs.Pages.{read_answer, outside}
 use Rattle.page.specs.declared.outside.Outside.{Outside}
-use Rattle.word.proofs.Marks.{same_mark}
-use Rattle.word.specs.Marks.{number, mark_at}
-use Rattle.word.specs.declared.mark.Mark.{Mark}
 use Rattle.word.specs.declared.word.Word.{Word}
 use Rattle.rules.specs.State.{unmarked, opened}
 use Rattle.word.specs.Words.{blank_word}
-
--- a word of a value whose mark's number is 0
-pub unmarked_from_zero : (value : ℕ) (m : Mark) → number m ≡ 0 → ◌≡◌ {A = Word} (record { value = value; mark = m }) (record { value = value; mark = mark_at 0 })
-unmarked_from_zero value m e = λ i. record { value = value; mark = same_mark m (mark_at 0) e i }
 
 -- a read that is outside
 pub read_past : (page : List Word) (w : ℕ) (x : Word) (e : Outside) → Err e ≡ read_answer page w → x ≡ blank_word → x ≡ get_or page w blank_word

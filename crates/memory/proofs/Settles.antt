@@ -3,6 +3,7 @@
 use Rattle.std.proofs.Common.{◌≡◌, ℕ, suc, ◌+◌, ◌/◌, ◌%◌, ◌<◌, ◌≤◌, Bool, true, false, cond, ◌&&◌, List, [], ◌∷◌, ◌++◌, get_or, fold, Option, sym, refl, ap, ◌∙◌, add-one, arith}
 use Rattle.std.proofs.lemmas.Nat.{div-add-mod', mod_below}
 use Rattle.std.proofs.lemmas.List.Sums.{fold_push}
+use Rattle.std.specs.Int.{from_bool}
 use Rattle.word.specs.declared.word.Word.{Word}
 use Rattle.call.specs.Figures.{Five}
 use Rattle.rules.specs.Effects as effect
@@ -16,7 +17,7 @@ use Rattle.memory.specs.declared.entry.Entry.{Entry}
 use Rattle.memory.specs.declared.entry.State.{State}
 use Rattle.memory.specs.declared.entry.State.TheVariants.{Invalid, Valid, Registered}
 use Rattle.memory.proofs.Views.{copies_at}
-use Rattle.memory.proofs.Walks.{walked_in, walked_past, walked_all, tally_more}
+use Rattle.memory.proofs.Walks.{walked_in, walked_past, walked_all, tally_more, one_of, one_most}
 
 abbrev pub step : Memory → Place → Memory
 step n p = write_back n p.core p.slot
@@ -34,7 +35,7 @@ pub record Settling (f : Five) (m n : Memory) (es fs : List Entry) (at count : �
 registered_copy : (e : Entry) → effect.is_registered (copy_in e) ≡ is_registered e.state
 registered_copy e = go e.state
   where
-    go : (s : State) → effect.is_registered (copy_by s e.place e.word) ≡ is_registered s
+    go : (s : State) → effect.is_registered (copy_by s e.place.number e.word) ≡ is_registered s
     go Invalid = refl
     go Valid = refl
     go Registered = refl
@@ -46,8 +47,8 @@ copy_at es at =
     ∙ ap (λ (k : ℕ). copy_in (get_or es k empty)) (div-add-mod' at 64)
 
 -- one step
-pub settling_more : (f g : Five) (ps : List Word) (es fs hs : List Entry) (os : List (Option Core)) (n n' : Memory) (at count added : ℕ) → g ≡ f → Settling f (memory_of ps es os) n es fs at count → n' ≡ cond (within g at) (write_back n (at / 64) (at % 64)) n → added ≡ cond {A = ℕ} (within g at && is_registered (get_or fs at empty).state) 1 0 → ((k : ℕ) → at < k → get_or hs k empty ≡ get_or fs k empty) → Settling f (memory_of ps es os) n' es hs (at + 1) (count + added)
-settling_more f g ps es fs hs os n n' at count added gf s ne ae re =
+pub settling_more : (f g : Five) (ps : List Word) (es fs hs : List Entry) (os : List (Option Core)) (n n' : Memory) (at count : ℕ) (wrote : Bool) → g ≡ f → Settling f (memory_of ps es os) n es fs at count → n' ≡ cond (within g at) (write_back n (at / 64) (at % 64)) n → wrote ≡ (within g at && is_registered (get_or fs at empty).state) → ((k : ℕ) → at < k → get_or hs k empty ≡ get_or fs k empty) → Settling f (memory_of ps es os) n' es hs (at + 1) (count + from_bool wrote)
+settling_more f g ps es fs hs os n n' at count wrote gf s ne we re =
     rw add-one (go (within f at) refl)
   where
     m : Memory
@@ -61,18 +62,14 @@ settling_more f g ps es fs hs os n n' at count added gf s ne ae re =
     rest_after : (k : ℕ) → suc at ≤ k → get_or hs k empty ≡ get_or es k empty
     rest_after k l = re k (omega arith) ∙ s.rest k (omega arith)
 
-    small_add : (b : Bool) → cond {A = ℕ} b 1 0 ≤ 1
-    small_add true = omega arith
-    small_add false = omega arith
+    told : from_bool wrote ≡ cond {A = ℕ} (within g at && is_registered (get_or fs at empty).state) 1 0
+    told = one_of wrote ∙ ap (λ (b : Bool). cond {A = ℕ} b 1 0) we
 
-    few : added ≤ 1
-    few = rw ae (small_add (within g at && is_registered (get_or fs at empty).state))
-
-    go : (b : Bool) → within f at ≡ b → Settling f m n' es hs (suc at) (count + added)
+    go : (b : Bool) → within f at ≡ b → Settling f m n' es hs (suc at) (count + from_bool wrote)
     go true e =
         let here : within g at ≡ true = ap (λ (k : Five). within k at) gf ∙ e in
         let made : n' ≡ write_back n (at / 64) (at % 64) = ne ∙ ap (λ (b : Bool). cond b (write_back n (at / 64) (at % 64)) n) here in
-        let more : added ≡ cond {A = ℕ} (test m (place_at at)) 1 0 = ae ∙ ap (λ (b : Bool). cond {A = ℕ} (b && is_registered (get_or fs at empty).state) 1 0) here ∙ ap (λ (b : Bool). cond {A = ℕ} b 1 0) same_test in
+        let more : from_bool wrote ≡ cond {A = ℕ} (test m (place_at at)) 1 0 = told ∙ ap (λ (b : Bool). cond {A = ℕ} (b && is_registered (get_or fs at empty).state) 1 0) here ∙ ap (λ (b : Bool). cond {A = ℕ} b 1 0) same_test in
         record {
           written =
               made ∙ ap (λ (k : Memory). write_back k (at / 64) (at % 64)) s.written
@@ -81,19 +78,19 @@ settling_more f g ps es fs hs os n n' at count added gf s ne ae re =
               let grown = tally_more (test m) (walked f at) (place_at at) in
               let walk : tally (test m) (walked f (suc at)) ≡ tally (test m) (walked f at ++ (place_at at ∷ [])) = ap (tally (test m)) (walked_in f at e) in
               omega (arith, s.counted, grown, walk, more);
-          small = omega (arith, few, s.small);
+          small = omega (arith, one_most wrote, s.small);
           rest = rest_after;
         }
     go false e =
         let here : within g at ≡ false = ap (λ (k : Five). within k at) gf ∙ e in
         let made : n' ≡ n = ne ∙ ap (λ (b : Bool). cond b (write_back n (at / 64) (at % 64)) n) here in
-        let more : added ≡ 0 = ae ∙ ap (λ (b : Bool). cond {A = ℕ} (b && is_registered (get_or fs at empty).state) 1 0) here in
+        let more : from_bool wrote ≡ 0 = told ∙ ap (λ (b : Bool). cond {A = ℕ} (b && is_registered (get_or fs at empty).state) 1 0) here in
         record {
           written = made ∙ (s.written ∙ ap (fold step m) (sym (walked_past f at e)));
           counted =
               let walk : tally (test m) (walked f (suc at)) ≡ tally (test m) (walked f at) = ap (tally (test m)) (walked_past f at e) in
               omega (arith, s.counted, walk, more);
-          small = omega (arith, few, s.small);
+          small = omega (arith, one_most wrote, s.small);
           rest = rest_after;
         }
 

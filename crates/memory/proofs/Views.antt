@@ -11,8 +11,8 @@ use Rattle.rules.specs.Effects.{write_back, write_back_by}
 use Rattle.rules.specs.State.{Copy, invalid, valid, registered, Memory, of_word, copy_of}
 use Rattle.rules.specs.Tables.{upd, upd2}
 use Rattle.rules.proofs.Tables.{upd_cases, upd2_cases}
-use Rattle.memory.specs.Entries.{copy_in, copy_by, empty, turned, state_after, done_by, is_written}
-use Rattle.memory.specs.Owners.{Core, seat, index_of, is_registered}
+use Rattle.memory.specs.Entries.{copy_in, copy_by, empty, turned, state_after, done_by}
+use Rattle.memory.specs.Owners.{Core, seat, index_of}
 use Rattle.memory.specs.Views.{copies_of, owner_number, owners_of, memory_of, page_after, owners_after, state_for, view}
 use Rattle.memory.specs.declared.bounds.Below.{Below}
 use Rattle.memory.specs.declared.bounds.Seat.{Seat}
@@ -71,20 +71,20 @@ left_same es at s e =
     ∙ set-get_or es at empty
 
 -- a settled entry is written back
-pub settled : (ps : List Word) (es : List Entry) (os : List (Option Core)) (c i : ℕ) → seat c i < length es → i < 64 → (get_or es (seat c i) empty).place < length os → memory_of (page_after (done_by (get_or es (seat c i) empty).state Settle) (get_or es (seat c i) empty) ps) (set es (seat c i) (turned (get_or es (seat c i) empty) Settle)) (owners_after (done_by (get_or es (seat c i) empty).state Settle) (get_or es (seat c i) empty) os) ≡ write_back (memory_of ps es os) c i
+pub settled : (ps : List Word) (es : List Entry) (os : List (Option Core)) (c i : ℕ) → seat c i < length es → i < 64 → (get_or es (seat c i) empty).place.number < length os → memory_of (page_after (done_by (get_or es (seat c i) empty).state Settle) (get_or es (seat c i) empty) ps) (set es (seat c i) (turned (get_or es (seat c i) empty) Settle)) (owners_after (done_by (get_or es (seat c i) empty).state Settle) (get_or es (seat c i) empty) os) ≡ write_back (memory_of ps es os) c i
 settled ps es os c i inside few fits =
     go was.state refl ∙ ap (λ (k : Copy). write_back_by k (memory_of ps es os) c i) (sym (copies_at es c i few))
   where
     was : Entry
     was = get_or es (seat c i) empty
 
-    go : (s : State) → was.state ≡ s → memory_of (page_after (done_by s Settle) was ps) (set es (seat c i) (record { state = state_after s Settle; place = was.place; word = was.word })) (owners_after (done_by s Settle) was os) ≡ write_back_by (copy_by s was.place was.word) (memory_of ps es os) c i
+    go : (s : State) → was.state ≡ s → memory_of (page_after (done_by s Settle) was ps) (set es (seat c i) (record { state = state_after s Settle; place = was.place; word = was.word })) (owners_after (done_by s Settle) was os) ≡ write_back_by (copy_by s was.place.number was.word) (memory_of ps es os) c i
     go Invalid e =
         same_memory ps ps _ (copies_of es) (owners_of os) (owners_of os) refl (ap copies_of (left_same es (seat c i) Invalid e)) refl
     go Valid e =
         same_memory ps ps _ (copies_of es) (owners_of os) (owners_of os) refl (ap copies_of (left_same es (seat c i) Valid e)) refl
     go Registered e =
-        same_memory _ _ _ _ _ _ refl (copies_set es c i (record { state = Valid; place = was.place; word = was.word }) inside few) (owners_set os was.place None fits)
+        same_memory _ _ _ _ _ _ refl (copies_set es c i (record { state = Valid; place = was.place; word = was.word }) inside few) (owners_set os was.place.number None fits)
 
 -- the seat of a core and a slot
 pub seated : (at : Seat) (c i : ℕ) → at.core.number ≡ c → at.slot.number ≡ i → index_of at ≡ seat c i
@@ -102,22 +102,17 @@ seat_below at = omega (arith, limited at.core, limited at.slot)
 pub settled_after : {P : Type 0} (words : P → List Word) (m : Tables P) (ps : List Word) (es : List Entry) (os : List (Option Core)) (at : Seat) → ps ≡ page_after (done_by (get_or m.entries (index_of at) empty).state Settle) (get_or m.entries (index_of at) empty) (words m.page) → es ≡ set m.entries (index_of at) (turned (get_or m.entries (index_of at) empty) Settle) → os ≡ owners_after (done_by (get_or m.entries (index_of at) empty).state Settle) (get_or m.entries (index_of at) empty) m.owners → memory_of ps es os ≡ write_back (view words m) at.core.number at.slot.number
 settled_after words m ps es os at a b d =
     same_memory _ _ _ _ _ _ a (ap copies_of b) (ap owners_of d)
-    ∙ settled (words m.page) m.entries m.owners at.core.number at.slot.number (omega (arith, m.caches, seat_below at)) (limited at.slot) (omega (arith, m.words, ltb-true (get_or m.entries (index_of at) empty).place 4096 (m.placed (index_of at))))
-
-pub settle_writes : (s : State) → is_written (done_by s Settle) ≡ is_registered s
-settle_writes Invalid = refl
-settle_writes Valid = refl
-settle_writes Registered = refl
+    ∙ settled (words m.page) m.entries m.owners at.core.number at.slot.number (omega (arith, m.caches, seat_below at)) (limited at.slot) (omega (arith, m.words, limited (get_or m.entries (index_of at) empty).place))
 
 -- an entry looked at for a word
 pub copy_for : (w : ℕ) (e : Entry) → of_word w (copy_in e) ≡ copy_by (state_for w e) w e.word
-copy_for w e = go e.state (eqb e.place w) refl
+copy_for w e = go e.state (eqb e.place.number w) refl
   where
-    go : (s : State) (b : Bool) → eqb e.place w ≡ b → of_word w (copy_by s e.place e.word) ≡ copy_by (cond (eqb e.place w) s Invalid) w e.word
-    go Invalid b h = ap (λ (s : State). copy_by s w e.word) (sym (cond_both (eqb e.place w) Invalid Invalid (λ s. s ≡ Invalid) (λ _. refl) (λ _. refl)))
-    go Valid true h = rw h (ap (λ (n : ℕ). valid n e.word) (eqb-true e.place w h))
+    go : (s : State) (b : Bool) → eqb e.place.number w ≡ b → of_word w (copy_by s e.place.number e.word) ≡ copy_by (cond (eqb e.place.number w) s Invalid) w e.word
+    go Invalid b h = ap (λ (s : State). copy_by s w e.word) (sym (cond_both (eqb e.place.number w) Invalid Invalid (λ s. s ≡ Invalid) (λ _. refl) (λ _. refl)))
+    go Valid true h = rw h (ap (λ (n : ℕ). valid n e.word) (eqb-true e.place.number w h))
     go Valid false h = rw h refl
-    go Registered true h = rw h (ap (λ (n : ℕ). registered n e.word) (eqb-true e.place w h))
+    go Registered true h = rw h (ap (λ (n : ℕ). registered n e.word) (eqb-true e.place.number w h))
     go Registered false h = rw h refl
 
 -- the copy of a word in a core's cache

@@ -4,6 +4,7 @@ use Rattle.std.proofs.Common.{◌≡◌, ℕ, zero, suc, ◌+◌, ◌-◌, ◌*�
 use Rattle.std.proofs.lemmas.Nat.{div-mul-add, mod-mul-add, le-div}
 use Rattle.std.proofs.lemmas.List.{append-nil, append_assoc, map-append, flat_map_more}
 use Rattle.std.proofs.lemmas.Bool.{lt-ltb, le-ltb, and_from, and_left, and_right, cases_eq, cond-false, cond-true}
+use Rattle.std.specs.Int.{from_bool}
 use Rattle.std.specs.List.{flat_map}
 use Rattle.call.specs.Figures.{Five}
 use Rattle.rules.specs.Effects.{Place, places, tally}
@@ -79,6 +80,15 @@ rows f (suc c) l h =
 pub walked_all : (f : Five) → f.slots ≤ 64 → f.cores ≤ 8 → walked f 512 ≡ places f
 walked_all f l m =
     skipped f (f.cores * 64) 512 (omega arith) (λ k a b. past_cores f k a) ∙ rows f f.cores l (omega arith)
+
+-- what a test that passes adds to a count
+pub one_of : (b : Bool) → from_bool b ≡ cond {A = ℕ} b 1 0
+one_of true = refl
+one_of false = refl
+
+pub one_most : (b : Bool) → from_bool b ≤ 1
+one_most true = omega arith
+one_most false = omega arith
 
 -- one more place counts one more if it passes
 pub tally_more : (test : Place → Bool) (ps : List Place) (p : Place) → tally test (ps ++ (p ∷ [])) ≡ tally test ps + cond {A = ℕ} (test p) 1 0

@@ -1,5 +1,5 @@
 -- A cache entry as a copy of the rules, and the table of what an event does to an entry. Assumes nothing.
-use Rattle.std.specs.Prelude.{ℕ, Bool, true, false}
+use Rattle.std.specs.Prelude.{ℕ, Bool, true, false, refl}
 use Rattle.word.specs.declared.word.Word.{Word}
 use Rattle.rules.specs.State.{Copy, invalid, valid, registered}
 use Rattle.word.specs.Words.{blank_word}
@@ -19,11 +19,11 @@ copy_by Registered place word = registered place word
 
 -- the copy that an entry holds
 abbrev pub copy_in : Entry → Copy
-copy_in e = copy_by e.state e.place e.word
+copy_in e = copy_by e.state e.place.number e.word
 
 -- an entry that holds nothing
 abbrev pub empty : Entry
-empty = record { state = Invalid; place = 0; word = blank_word }
+empty = record { state = Invalid; place = record { number = 0; within = refl }; word = blank_word }
 
 -- the number of a state, as an eviction answers it: 0 without a copy, 1 for a valid one, 2 for a registered one
 abbrev pub number_of : State → ℕ

@@ -24,8 +24,8 @@ goes f plan word = not (is_read_only (mode_of f plan word))
 
 -- the entry that such an end leaves
 abbrev pub left_by : Five → ℕ → Entry → Entry
-left_by f plan e = cond (goes f plan e.place) (turned e Fade) e
+left_by f plan e = cond (goes f plan e.place.number) (turned e Fade) e
 
 -- whether it drops the entry's copy
 abbrev pub drops : Five → ℕ → Entry → Bool
-drops f plan e = goes f plan e.place && is_dropped (done_by e.state Fade)
+drops f plan e = goes f plan e.place.number && is_dropped (done_by e.state Fade)

@@ -12,6 +12,10 @@ use Rattle.memory.specs.declared.entry.State.TheVariants.{Invalid, Valid, Regist
 abbrev pub Core : Type 0
 Core = Below 8
 
+-- the place of a word on a page
+abbrev pub Place : Type 0
+Place = Below 4096
+
 -- the place of a core's slot among all entries: 64 for each core
 abbrev pub seat : ℕ → ℕ → ℕ
 seat core slot = core * 64 + slot
@@ -27,7 +31,7 @@ is_registered Registered = true
 
 -- whether an entry is the registered copy of a word
 abbrev pub counts_for : ℕ → Entry → Bool
-counts_for word e = is_registered e.state && e.place == word
+counts_for word e = is_registered e.state && e.place.number == word
 
 -- whether the owner of a word, if it has one, is a core whose entry for the word is its registered copy
 abbrev pub holds : Five → List Entry → ℕ → Option Core → Bool

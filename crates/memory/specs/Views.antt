@@ -34,15 +34,15 @@ memory_of page entries owners = record { page = page; copies = copies_of entries
 abbrev pub page_after : Done → Entry → List Word → List Word
 page_after Kept e page = page
 page_after Dropped e page = page
-page_after Written e page = slice_set page e.place e.word
+page_after Written e page = slice_set page e.place.number e.word
 page_after Lost e page = page
 
 -- who owns what after an event: an entry that counted no more has no owner
 abbrev pub owners_after : Done → Entry → List (Option Core) → List (Option Core)
 owners_after Kept e owners = owners
 owners_after Dropped e owners = owners
-owners_after Written e owners = slice_set owners e.place None
-owners_after Lost e owners = slice_set owners e.place None
+owners_after Written e owners = slice_set owners e.place.number None
+owners_after Lost e owners = slice_set owners e.place.number None
 
 -- the memory that its tables mean, by the list of words that its page means
 abbrev pub view : {P : Type 0} → (P → List Word) → Tables P → Memory
@@ -54,7 +54,7 @@ five_of m = figures m.figures
 
 -- an entry's state as that of a word's copy: an entry of another word counts as invalid
 abbrev pub state_for : ℕ → Entry → State
-state_for word e = cond (e.place == word) e.state Invalid
+state_for word e = cond (e.place.number == word) e.state Invalid
 
 -- a word as its owner has it or, without an owner, as it is on the page
 abbrev pub word_by : Option Core → Five → List Word → List Entry → ℕ → Word

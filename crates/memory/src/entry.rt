@@ -3,6 +3,7 @@ ghost use Rattle.std.specs.Prelude.{◌≡◌, if◌then◌else◌, nat_eq};
 ghost use Rattle.memory.specs.Entries.{empty, turned, done_by, is_written, is_dropped};
 ghost use Rattle.memory.specs.declared.entry.State.TheVariants.{Invalid};
 
+use crate::bounds::Place;
 use word::Word;
 
 /// Whether an entry holds a copy: none, one that may be read, or the one that counts, whose core owns the word.
@@ -59,7 +60,7 @@ impl Done {
 #[derive(Clone, Copy)]
 pub struct Entry {
     pub state: State,
-    pub place: u16,
+    pub place: Place,
     pub word: Word,
 }
 
@@ -70,7 +71,7 @@ impl Entry {
     {
         Entry {
             state: State::Invalid,
-            place: 0,
+            place: Place { number: 0 },
             word: Word::blank(),
         }
     }
@@ -94,10 +95,10 @@ impl Entry {
     }
 
     // The state of a word's copy, if the entry is looked at for that word: an entry of another word is invalid.
-    pub(crate) fn state_for(&self, word: u16) -> State
-        ensures { result ≡ (if nat_eq self.now.place word then self.now.state else Invalid) }
+    pub(crate) fn state_for(&self, word: Place) -> State
+        ensures { result ≡ (if nat_eq self.now.place.number word.number then self.now.state else Invalid) }
     {
-        if self.place == word {
+        if self.place.number == word.number {
             self.state
         } else {
             State::Invalid

@@ -1,8 +1,7 @@
 //! The memory of a board. The type stands apart from its methods, since a type with a ghost field takes in all that its
 //! file names.
-ghost use Rattle.std.specs.Prelude.{◌≡◌, ℕ, true, length, get_or, None, nat_lt, slice_index_or};
+ghost use Rattle.std.specs.Prelude.{◌≡◌, ℕ, true, length, None, slice_index_or};
 ghost use Rattle.call.specs.Figures.{figures as numbers};
-ghost use Rattle.memory.specs.Entries.{empty};
 ghost use Rattle.memory.specs.Owners.{holds};
 
 use crate::bounds::Core;
@@ -28,6 +27,5 @@ pub struct Memory<P> {
     owners: [Option<Core>; 4096],
     ghost caches: { length entries ≡ 512 },
     ghost words: { length owners ≡ 4096 },
-    ghost placed: { (at : ℕ) → nat_lt (get_or entries at empty).place 4096 ≡ true },
     ghost owned: { (word : ℕ) → holds (numbers figures) entries word (slice_index_or owners word None) ≡ true },
 }

@@ -8,41 +8,27 @@ ghost use Rattle.memory.specs.Walks.{within, walked};
 
 use super::Memory;
 use super::settles::is_within;
+use crate::bounds::Place;
 use crate::entry::{Entry, Event};
 use crate::mode::{Mode, mode_of};
 use call::Figures;
 use page::PageStore;
 
 // Whether copies of a word go when a phase under this plan ends.
-fn goes_at_end(figures: &Figures, plan: u64, word: u16) -> bool
-    ensures { result ≡ goes (numbers figures.now) plan word }
+fn goes_at_end(figures: &Figures, plan: u64, word: Place) -> bool
+    ensures { result ≡ goes (numbers figures.now) plan word.number }
 {
-    !matches!(mode_of(figures, plan, word), Mode::ReadOnly)
+    !matches!(mode_of(figures, plan, word.number), Mode::ReadOnly)
 }
 
-// The end of a phase at one entry: whether its copy is dropped.
-fn fade_one(figures: &Figures, plan: u64, held: &mut Entry) -> bool
+// The end of a phase at one entry: whether its copy is dropped, and the figures have its slot.
+fn fade_at(figures: &Figures, plan: u64, at: usize, held: &mut Entry) -> bool
     ensures after { held.new ≡ left_by (numbers figures.now) plan held.old }
-    ensures answer { result ≡ drops (numbers figures.now) plan held.old }
+    ensures answer { result ≡ drops (numbers figures.now) plan held.old && within (numbers figures.now) at }
 {
-    if goes_at_end(figures, plan, held.place) {
-        held.turn(Event::Fade).is_dropped()
-    } else {
-        false
-    }
-}
-
-// The same, counted: 1 if the copy is dropped and the figures have its slot.
-fn fade_at(figures: &Figures, plan: u64, at: usize, held: &mut Entry) -> u16
-    ensures after { held.new ≡ left_by (numbers figures.now) plan held.old }
-    ensures answer { result ≡ cond {A = ℕ} (drops (numbers figures.now) plan held.old && within (numbers figures.now) at) 1 0 }
-    ensures small { result ≤ 1 }
-{
-    if fade_one(figures, plan, held) && is_within(figures, at) {
-        1
-    } else {
-        0
-    }
+    goes_at_end(figures, plan, held.place)
+        && held.turn(Event::Fade).is_dropped()
+        && is_within(figures, at)
 }
 
 // The end of a phase at all entries: how many copies are dropped in the slots that the figures have.
@@ -53,7 +39,7 @@ fn fade_all(figures: &Figures, plan: u64, entries: &mut [Entry]) -> u16
 {
     let mut dropped = 0;
     for (at, held) in entries.iter_mut().enumerate() {
-        dropped += fade_at(figures, plan, at, held);
+        dropped += fade_at(figures, plan, at, held) as u16;
     }
     dropped
 }
@@ -66,7 +52,6 @@ impl<P: PageStore> Memory<P> {
         ensures answer { result ≡ (rule (five_of self.old) plan (view P.words self.old)).answer }
         ensures after { view P.words self.new ≡ (rule (five_of self.old) plan (view P.words self.old)).memory }
     {
-        let figures = self.figures;
-        fade_all(&figures, plan, &mut self.entries)
+        fade_all(&self.figures, plan, &mut self.entries)
     }
 }

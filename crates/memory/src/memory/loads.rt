@@ -41,13 +41,13 @@ impl<P: PageStore> Memory<P> {
     fn fill(&mut self, at: Seat, word: Place, found: Word)
         requires { is_registered (get_or self.old.entries (index_of at) empty).state ≡ false }
         ensures figures { self.new.figures ≡ self.old.figures }
-        ensures entries { self.new.entries ≡ slice_set self.old.entries (index_of at) (record { state = Valid; place = word.number; word = found }) }
+        ensures entries { self.new.entries ≡ slice_set self.old.entries (index_of at) (record { state = Valid; place = word; word = found }) }
         ensures owners { self.new.owners ≡ self.old.owners }
         ensures page { P.words self.new.page ≡ P.words self.old.page }
     {
         self.entries[at.index()] = Entry {
             state: State::Valid,
-            place: word.number,
+            place: word,
             word: found,
         };
     }

@@ -37,6 +37,6 @@ impl<P: PageStore> Memory<P> {
         ensures { copy_of (five_of self.now) (view P.words self.now) core.number word.number ≡ copy_by result.0 word.number result.1 }
     {
         let held = self.entries[self.seat(core, word).index()];
-        (held.state_for(word.number), held.word)
+        (held.state_for(word), held.word)
     }
 }

@@ -1,5 +1,5 @@
 //! What can be asked of a memory. No question changes it.
-ghost use Rattle.std.specs.Prelude.{◌≡◌, ℕ, ◌≤◌, cond, is_some};
+ghost use Rattle.std.specs.Prelude.{◌≡◌, ◌≤◌, is_some, count_by, take};
 ghost use Rattle.rules.specs.Questions.{owned_among};
 ghost use Rattle.rules.specs.State.{size_of, page_word};
 ghost use Rattle.rules.specs.Tables.{below};
@@ -8,18 +8,28 @@ ghost use Rattle.memory.specs.Views.{view, five_of};
 use super::Memory;
 use super::loads::page_word;
 use super::opens::size_with;
-use crate::bounds::Place;
+use crate::bounds::{Core, Place};
 use call::Figures;
 use page::PageStore;
 use word::Word;
+
+// How many of the first owners of a table are there.
+fn owned_first(owners: &[Option<Core>], size: u16) -> u16
+    ensures { result ≡ count_by is_some (take size owners.now) }
+{
+    owners
+        .iter()
+        .take(size as usize)
+        .filter(|owner| owner.is_some())
+        .count() as u16
+}
 
 impl<P: PageStore> Memory<P> {
     /// The figures that it was opened with.
     pub fn figures(&self) -> Figures
         ensures { result ≡ self.now.figures }
     {
-        let figures = self.figures;
-        figures
+        self.figures
     }
 
     /// How many words it has: as many as its figures allow and its page has.
@@ -48,33 +58,17 @@ impl<P: PageStore> Memory<P> {
         page_word(&mut self.page, word)
     }
 
-    // 1 for a word with an owner, 0 for one without.
-    fn counted(&self, word: u16) -> u16
-        ensures value { result ≡ cond {A = ℕ} (is_some ((view P.words self.now).owners word)) 1 0 }
-        ensures small { result ≤ 1 }
-    {
-        match self.owner(word) {
-            Some(_) => 1,
-            None => 0,
-        }
-    }
-
     /// How many words have an owner.
     pub fn owned(&self) -> u16
         ensures { result ≡ owned_among (view P.words self.now) (below (size_of (five_of self.now) (P.words self.now.page))) }
     {
-        let size = self.size();
-        self.owned_below(size)
+        self.owned_below(self.size())
     }
 
     /// How many of the first words have an owner.
     pub fn owned_below(&self, size: u16) -> u16
         ensures { result ≡ owned_among (view P.words self.now) (below size) }
     {
-        let mut owned = 0;
-        for word in 0..size {
-            owned += self.counted(word);
-        }
-        owned
+        owned_first(&self.owners, size)
     }
 }

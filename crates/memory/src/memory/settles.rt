@@ -20,19 +20,15 @@ pub(super) fn is_within(figures: &Figures, at: usize) -> bool
 }
 
 impl<P: PageStore> Memory<P> {
-    // One entry written back, if the figures have it: 1 for a registered copy, 0 for any other.
-    fn settle_at(&mut self, at: usize) -> u16
+    // One entry written back, if the figures have it: whether it was a registered copy.
+    fn settle_at(&mut self, at: usize) -> bool
         requires { at < 512 }
         ensures figures { self.new.figures ≡ self.old.figures }
         ensures rest { (k : ℕ) → at < k → slice_index_or self.new.entries k empty ≡ slice_index_or self.old.entries k empty }
         ensures after { view P.words self.new ≡ (if has (five_of self.old) at then write_back (view P.words self.old) (at / 64) (at % 64) else view P.words self.old) }
-        ensures answer { result ≡ cond {A = ℕ} (has (five_of self.old) at && is_registered (get_or self.old.entries at empty).state) 1 0 }
+        ensures answer { result ≡ has (five_of self.old) at && is_registered (get_or self.old.entries at empty).state }
     {
-        if is_within(&self.figures, at) && self.write_back(Seat::nth(at)) {
-            1
-        } else {
-            0
-        }
+        is_within(&self.figures, at) && self.write_back(Seat::nth(at))
     }
 
     /// Writes every registered copy to the page, in rising order of cores and slots: each becomes valid and its word has no
@@ -44,7 +40,7 @@ impl<P: PageStore> Memory<P> {
     {
         let mut settled = 0;
         for at in 0..512 {
-            settled += self.settle_at(at);
+            settled += self.settle_at(at) as u16;
         }
         settled
     }

@@ -24,7 +24,7 @@ impl<P: PageStore> Memory<P> {
         let at = self.seat(core, word);
         self.entries[at.index()] = Entry {
             state: State::Registered,
-            place: word.number,
+            place: word,
             word: stored,
         };
     }
@@ -34,13 +34,13 @@ impl<P: PageStore> Memory<P> {
         requires seated { at.slot.number ≡ slot_of (five_of self.old) word.number }
         requires idle { is_registered (get_or self.old.entries (index_of at) empty).state ≡ false }
         ensures figures { self.new.figures ≡ self.old.figures }
-        ensures entries { self.new.entries ≡ slice_set self.old.entries (index_of at) (record { state = Registered; place = word.number; word = stored }) }
+        ensures entries { self.new.entries ≡ slice_set self.old.entries (index_of at) (record { state = Registered; place = word; word = stored }) }
         ensures owners { self.new.owners ≡ slice_set self.old.owners word.number (Some at.core) }
         ensures page { P.words self.new.page ≡ P.words self.old.page }
     {
         self.entries[at.index()] = Entry {
             state: State::Registered,
-            place: word.number,
+            place: word,
             word: stored,
         };
         self.owners[word.number as usize] = Some(at.core);

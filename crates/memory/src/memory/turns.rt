@@ -36,10 +36,10 @@ impl<P: PageStore> Memory<P> {
         match done {
             Done::Kept | Done::Dropped => {}
             Done::Written => {
-                self.owners[held.place as usize] = None;
-                let _ = self.page.write(held.place, held.word);
+                self.owners[held.place.number as usize] = None;
+                let _ = self.page.write(held.place.number, held.word);
             }
-            Done::Taken => self.owners[held.place as usize] = None,
+            Done::Taken => self.owners[held.place.number as usize] = None,
         }
         done
     }

@@ -1,26 +1,11 @@
-use Rattle.std.proofs.Common.{get_or, None, ap, sym, ◌∙◌, arith}
-use Rattle.call.specs.Figures.{figures, slot_of}
+use Rattle.std.proofs.Common.{ap, ◌∙◌, arith}
+use Rattle.call.specs.Figures.{figures}
 use Rattle.memory.specs.Owners.{index_of}
 use Rattle.memory.specs.Views.{view}
 use Rattle.memory.proofs.Loads.{settled_idle}
-use Rattle.memory.proofs.Owned.{sound_of}
-use Rattle.memory.proofs.Stores.{claim_steps, taken_idle_after}
-use Rattle.memory.proofs.Views.{limited, seat_below}
+use Rattle.memory.proofs.Stores.{claim_steps}
+use Rattle.memory.proofs.Views.{seat_below}
 use Rattle.memory.proofs.memory.Memory.claim.Goals as goal
-
-pub register-requires : goal.register-requires
-register-requires g c =
-    let m = c.args.self.now in
-    let a = c.write_back.new.self in
-    let b = c.take-answer.new.self in
-    let at = c.seat-at.result in
-    let w = c.args.word.number in
-    let wrote = c.write_back.ensures in
-    let took = c.take-answer.ensures in
-    record {
-      seated = c.seat-at.ensures.slot ∙ sym (ap (λ f. slot_of (figures f) w) (took.figures ∙ wrote.figures));
-      idle = taken_idle_after (figures a.figures) m.entries a.entries b.entries (get_or a.owners w None) w (index_of at) (omega (arith, m.caches, seat_below at)) (omega (arith, a.caches, seat_below at)) wrote.entries took.entries;
-    }
 
 pub returns : goal.returns
 returns g c =
@@ -33,7 +18,7 @@ returns g c =
     let wrote = c.write_back.ensures in
     let took = c.take-answer.ensures in
     let put = c.register.ensures in
-    let steps = claim_steps (figures m.figures) (figures a.figures) (view words m) (words a.page) (words b.page) (words d.page) a.entries b.entries d.entries a.owners b.owners d.owners at c.args.core.number c.args.word.number c.take-answer.result c.args.stored (ap figures wrote.figures) c.seat-at.ensures.core c.seat-at.ensures.slot (limited c.args.word) (sound_of a) (settled_idle m.entries a.entries (index_of at) (omega (arith, m.caches, seat_below at)) wrote.entries) wrote.after took.answer took.page took.entries took.owners put.page put.entries put.owners in
+    let steps = claim_steps (figures m.figures) (figures a.figures) (view words m) (words a.page) (words b.page) (words d.page) a.entries b.entries d.entries a.owners b.owners d.owners at c.args.core.number c.args.word c.take-answer.result c.args.stored (ap figures wrote.figures) c.seat-at.ensures.core c.seat-at.ensures.slot a.caches a.words a.owned (settled_idle m.entries a.entries (index_of at) (omega (arith, m.caches, seat_below at)) wrote.entries) wrote.after took.answer took.page took.entries took.owners put.page put.entries put.owners in
     record {
       figures = put.figures ∙ (took.figures ∙ wrote.figures);
       answer = steps.answer;

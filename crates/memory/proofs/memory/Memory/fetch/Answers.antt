@@ -16,7 +16,7 @@ returns g c =
     let wrote = c.write_back.ensures in
     let cur = c.current-source.ensures in
     let filled = c.fill.ensures in
-    let steps = fetch_steps (figures m.figures) (figures a.figures) (view words m) (words a.page) (words d.page) a.entries b.entries d.entries a.owners d.owners at c.args.core.number c.args.word.number c.current-source.result.1 c.current-source.result.0 (ap figures wrote.figures) c.seat-at.ensures.core c.seat-at.ensures.slot (omega (arith, a.caches, seat_below at)) a.owned wrote.after cur.word cur.source (filled.page ∙ cur.page) cur.entries filled.entries (filled.owners ∙ cur.owners) in
+    let steps = fetch_steps (figures m.figures) (figures a.figures) (view words m) (words a.page) (words d.page) a.entries b.entries d.entries a.owners d.owners at c.args.core.number c.args.word c.current-source.result.1 c.current-source.result.0 (ap figures wrote.figures) c.seat-at.ensures.core c.seat-at.ensures.slot (omega (arith, a.caches, seat_below at)) a.owned wrote.after cur.word cur.source (filled.page ∙ cur.page) cur.entries filled.entries (filled.owners ∙ cur.owners) in
     record {
       figures = filled.figures ∙ (cur.figures ∙ wrote.figures);
       word = steps.word;

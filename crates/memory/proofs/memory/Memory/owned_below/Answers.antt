@@ -1,8 +1,8 @@
-use Rattle.std.proofs.Common.{arith}
-use Rattle.memory.specs.Views.{view}
-use Rattle.memory.proofs.Opens.{owned_step}
+use Rattle.std.proofs.Common.{◌∙◌}
+use Rattle.memory.proofs.Opens.{owned_taken}
 use Rattle.memory.proofs.memory.Memory.owned_below.Goals as goal
 
-pub loop-word-preserved : goal.loop-word-preserved
-loop-word-preserved g c =
-    (owned_step (view g.P.PageStore.words c.args.self.now) c.loop-word.word c.loop-word.owned c.counted-owned.result c.loop-word.invariant.0 c.counted-owned.ensures.value, omega (arith, c.loop-word.invariant.1, c.counted-owned.ensures.small))
+pub returns : goal.returns
+returns g c =
+    let m = c.args.self.now in
+    c.owned_first.ensures ∙ owned_taken (g.P.PageStore.words m.page) m.entries m.owners c.args.size

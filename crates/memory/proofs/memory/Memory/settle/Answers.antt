@@ -15,9 +15,9 @@ loop-at-preserved g c =
     let words = g.P.PageStore.words in
     let m = c.args.self.now in
     let n = c.loop-at.self in
-    let after = c.settle_at-settled.new.self in
-    let done = c.settle_at-settled.ensures in
-    (settling_more (figures m.figures) (figures n.figures) (words m.page) m.entries n.entries after.entries m.owners (view words n) (view words after) c.loop-at.at c.loop-at.settled c.settle_at-settled.result (ap figures c.loop-at.invariant.1) c.loop-at.invariant.0 done.after done.answer done.rest, done.figures ∙ c.loop-at.invariant.1)
+    let after = c.settle_at.new.self in
+    let done = c.settle_at.ensures in
+    (settling_more (figures m.figures) (figures n.figures) (words m.page) m.entries n.entries after.entries m.owners (view words n) (view words after) c.loop-at.at c.loop-at.settled c.settle_at.result (ap figures c.loop-at.invariant.1) c.loop-at.invariant.0 done.after done.answer done.rest, done.figures ∙ c.loop-at.invariant.1)
 
 pub returns : goal.returns
 returns g c =

@@ -1,30 +1,23 @@
-use Rattle.std.proofs.Common.{refl, ⊎_elim}
+use Rattle.std.proofs.Common.{refl, ⊎_elim, ◌∙◌, arith, length-set}
 use Rattle.call.specs.Figures.{figures}
-use Rattle.memory.specs.declared.entry.Done.TheVariants.{Kept, Dropped, Written, Taken as Lost}
-use Rattle.memory.proofs.Owned.{sound_of, turn_sound}
+use Rattle.memory.specs.declared.entry.Done.TheVariants.{Kept, Dropped, Written}
+use Rattle.memory.proofs.Owned.{turned_owned}
 use Rattle.memory.proofs.memory.Memory.turn_at.Goals as goal
 
-pub invariant_of-self : goal.invariant_of-self
-invariant_of-self g c =
+pub invariant_of-self-clause-owned : goal.invariant_of-self-clause-owned
+invariant_of-self-clause-owned g c =
     let m = c.args.self.now in
     let t = c.turn_in-done.ensures in
-    let s =
     ⊎_elim
-    (λ is. turn_sound (figures m.figures) m.entries _ m.owners _ c.index-at.result c.index-self-at.result c.args.event _ Kept (sound_of m) c.index-at.ensures.within t.after t.answer is refl)
-    (λ is. turn_sound (figures m.figures) m.entries _ m.owners _ c.index-at.result c.index-self-at.result c.args.event _ Dropped (sound_of m) c.index-at.ensures.within t.after t.answer is refl)
-    c.in-Kept.is in
-    record { caches = s.caches; words = s.words; placed = s.placed; owned = s.owned }
+    (λ is. turned_owned (figures m.figures) m.entries _ m.owners _ c.index-at.result c.index-self-at.result c.args.event _ Kept (omega (arith, m.caches)) m.words m.owned t.after t.answer is refl)
+    (λ is. turned_owned (figures m.figures) m.entries _ m.owners _ c.index-at.result c.index-self-at.result c.args.event _ Dropped (omega (arith, m.caches)) m.words m.owned t.after t.answer is refl)
+    c.in-Kept.is
 
-pub invariant_of-self-in-Written : goal.invariant_of-self-in-Written
-invariant_of-self-in-Written g c =
+pub invariant_of-self-in-Written-clause-words : goal.invariant_of-self-in-Written-clause-words
+invariant_of-self-in-Written-clause-words g c = length-set _ _ _ ∙ c.args.self.now.words
+
+pub invariant_of-self-in-Written-clause-owned : goal.invariant_of-self-in-Written-clause-owned
+invariant_of-self-in-Written-clause-owned g c =
     let m = c.args.self.now in
     let t = c.turn_in-done.ensures in
-    let s = turn_sound (figures m.figures) m.entries _ m.owners _ c.index-at.result c.index-self-at.result c.args.event _ Written (sound_of m) c.index-at.ensures.within t.after t.answer c.in-Written.is refl in
-    record { caches = s.caches; words = s.words; placed = s.placed; owned = s.owned }
-
-pub invariant_of-self-in-Taken : goal.invariant_of-self-in-Taken
-invariant_of-self-in-Taken g c =
-    let m = c.args.self.now in
-    let t = c.turn_in-done.ensures in
-    let s = turn_sound (figures m.figures) m.entries _ m.owners _ c.index-at.result c.index-self-at.result c.args.event _ Lost (sound_of m) c.index-at.ensures.within t.after t.answer c.in-Taken.is refl in
-    record { caches = s.caches; words = s.words; placed = s.placed; owned = s.owned }
+    turned_owned (figures m.figures) m.entries _ m.owners _ c.index-at.result c.index-self-at.result c.args.event _ Written (omega (arith, m.caches)) m.words m.owned t.after t.answer c.in-Written.is refl
