@@ -1,12 +1,13 @@
 -- What a table means after a bit is set, a row joined or a row emptied: just what the rows' definitions say, bit by bit. The row
 -- that is written has the bits, and the other rows are as they were. Assumes nothing.
-use Rattle.std.proofs.Common.{◌≡◌, ℕ, ◌/◌, ◌%◌, ◌^◌, ◌<◌, Bool, true, false, cond, ◌||◌, eqb, List, length, get_or, replicate, refl, ap, ◌∙◌, ⊎_elim, arith}
-use Rattle.std.proofs.lemmas.Bool.{cases_lt, false_from_ne_true}
-use Rattle.std.proofs.lemmas.Grind.{common_steps}
-use Rattle.std.proofs.lemmas.List.{get_or-replicate, get_or_past, length-replicate}
+use Rattle.std.proofs.Common.{◌≡◌, ℕ, ◌/◌, ◌%◌, ◌^◌, ◌<◌, Bool, true, false, cond, ◌||◌, eqb, List, [], length, get_or, replicate, set, sym, refl, ap, ◌∙◌, ⊎_elim, arith, length-set}
+use Rattle.std.proofs.lemmas.Bool.{cases_eq, cases_lt, false_from_ne_true}
+use Rattle.std.proofs.lemmas.Grind.{common_steps, get_or-set_at}
+use Rattle.std.proofs.lemmas.List.{get_or-replicate, get_or-set_other, get_or_past, length-replicate}
 use Rattle.std.proofs.lemmas.List.FromFn.{get_or-map-range_with_len, length-map-range_with_len}
 use Rattle.std.proofs.lemmas.Nat.{div-add-mod'}
 use Rattle.std.proofs.lemmas.Nat.Bits.{bit_at-zero}
+use Rattle.std.specs.List.{All}
 use Rattle.sets.specs.Sentences.{Sets}
 use Rattle.sets.specs.Rows.{added, joined, emptied}
 use Rattle.sets.specs.Tables.{bit, row_bit, row_of, rows_of, row_with, row_joined, with_bit, with_joined, with_emptied}
@@ -45,22 +46,43 @@ bit_of_joined row other y even =
 bit_of_zeros : (n y : ℕ) → row_bit (replicate n 0) y ≡ false
 bit_of_zeros n y = grind (arith, get_or-replicate, get_or_past, length-replicate, bit_at-zero)
 
-module _ (table : List (List ℕ)) (c d y : ℕ) where
+-- a table in which one row is written keeps the width of its rows
+pub wide : (width c : ℕ) (table : List (List ℕ)) (row : List ℕ) → All (λ r. length r ≡ width) table → (c < length table → length row ≡ width) →
+    All (λ r. length r ≡ width) (set table c row)
+wide width c table row all fits k d h =
+    let within : k < length table = omega (arith, h, length-set table c row) in
+    ⊎_elim
+    (λ e. let here : c < length table = omega (arith, e, within) in ap length (get_or-set_at table c k row d e here) ∙ fits here)
+    (λ ne. ap length (get_or-set_other table c k row d ne) ∙ all k d within)
+    (cases_eq k c)
+
+-- of a table of eight rows of one width
+module _ (width : ℕ) (table : List (List ℕ)) (eight : length table ≡ 8) (even : All (λ r. length r ≡ width) table) (c : ℕ) (low : c < 8) where
+  within : (e : ℕ) → e < 8 → e < length table
+  within e h = omega (arith, h, eight)
+
+  long : (e : ℕ) → e < 8 → length (row_of table e) ≡ width
+  long e h = even e [] (within e h)
+
   -- the rows after one bit is set
-  pub rows_with_bit : (x : ℕ) → c < length table → x / 64 < length (row_of table c) → rows_of (with_bit table c x) d y ≡ added (rows_of table) c x d y
+  pub rows_with_bit : (x : ℕ) → x / 64 < width → (d y : ℕ) → rows_of (with_bit table c x) d y ≡ added (rows_of table) c x d y
   unfolding rows_of
-  rows_with_bit x within fits = grind (arith, common_steps, bit_of_with (row_of table c) x y fits)
+  rows_with_bit x h d y =
+      let here = within c low in
+      let fits : x / 64 < length (row_of table c) = omega (arith, h, long c low) in
+      grind (arith, common_steps, bit_of_with (row_of table c) x y fits)
 
   -- the rows after a row is joined with another
-  pub rows_joined : (e : ℕ) → c < length table → length (row_of table e) ≡ length (row_of table c) →
-      rows_of (with_joined table c e) d y ≡ joined (rows_of table) c e d y
+  pub rows_joined : (e : ℕ) → e < 8 → (d y : ℕ) → rows_of (with_joined table c e) d y ≡ joined (rows_of table) c e d y
   unfolding rows_of
-  rows_joined e within even = grind (arith, common_steps, bit_of_joined (row_of table c) (row_of table e) y even)
+  rows_joined e h d y =
+      let here = within c low in
+      grind (arith, common_steps, bit_of_joined (row_of table c) (row_of table e) y (long e h ∙ sym (long c low)))
 
   -- the rows after a row is emptied
-  pub rows_emptied : (width : ℕ) → c < length table → rows_of (with_emptied width table c) d y ≡ emptied (rows_of table) c d y
+  pub rows_emptied : (d y : ℕ) → rows_of (with_emptied width table c) d y ≡ emptied (rows_of table) c d y
   unfolding rows_of
-  rows_emptied width within = grind (arith, common_steps, bit_of_zeros width y)
+  rows_emptied d y = let here = within c low in grind (arith, common_steps, bit_of_zeros width y)
 
 -- a table of zeros means empty rows
 pub rows_empty : (n width d y : ℕ) → rows_of (replicate n (replicate width 0)) d y ≡ false

@@ -1,8 +1,8 @@
 -- The Bloom signature: which bits it has, what its sets hold by them, and what it is after each operation; the facts beside them
 -- show which bits it then has, to the bit, and that it keeps the sentences of every signature. Assumes nothing.
 use Rattle.std.specs.Prelude.{◌≡◌, ℕ, ◌+◌, ◌*◌, ◌/◌, ◌<◌, ◌||◌, ◌&&◌, cond, eqb, true}
-use Rattle.std.proofs.Common.{◌∙◌, ap, arith}
-use Rattle.std.proofs.lemmas.Nat.{mod_below}
+use Rattle.std.proofs.Common.{◌∙◌, ap, refl}
+use Rattle.std.proofs.lemmas.Nat.{div_below, mod_below}
 use Rattle.std.proofs.lemmas.Bool.{ltb-true, and_parts}
 use Rattle.sets.specs.Operations.{Operations}
 use Rattle.sets.specs.Sentences.{Sets, Put, TakenIn, Cleared, Bounded}
@@ -49,10 +49,10 @@ pub put_bits : (s : Bloom) (core word d x : ℕ) → bits (put s core word) d x 
 put_bits s core word = chosen_holds bits (in_range core word) (with_word s core word) s (added (added (bits s) core (first_bit word)) core (second_bit word)) both
   where
     first : first_bit word / 64 < 4
-    first = omega (arith, mod_below word 256 (omega arith))
+    first = div_below (first_bit word) 64 4 (ltb-true 0 64 refl) (mod_below word 256 (ltb-true 0 256 refl))
 
     second : second_bit word / 64 < 4
-    second = omega (arith, mod_below (word / 16 + 7 * word) 256 (omega arith))
+    second = div_below (second_bit word) 64 4 (ltb-true 0 64 refl) (mod_below (word / 16 + 7 * word) 256 (ltb-true 0 256 refl))
 
     both : in_range core word ≡ true → (d x : ℕ) → bits (with_word s core word) d x ≡ added (added (bits s) core (first_bit word)) core (second_bit word) d x
     both range d x =

@@ -1,7 +1,8 @@
 -- The exact signature: what its sets hold, and what it is after each operation; the facts beside them show what the sets then
 -- hold, to the word, and that it keeps the sentences of every signature. Assumes nothing.
 use Rattle.std.specs.Prelude.{◌≡◌, ℕ, cond}
-use Rattle.std.proofs.Common.{arith}
+use Rattle.std.proofs.Common.{refl}
+use Rattle.std.proofs.lemmas.Nat.{div_below}
 use Rattle.std.proofs.lemmas.Bool.{ltb-true, and_parts}
 use Rattle.sets.specs.Operations.{Operations}
 use Rattle.sets.specs.Sentences.{Sets, Put, TakenIn, Cleared, Bounded}
@@ -39,7 +40,7 @@ operations = record { holds = held; put = put; take_in = taken_in; clear = clear
 pub put_holds : (s : Exact) (core word d v : ℕ) → held (put s core word) d v ≡ words_put (held s) core word d v
 put_holds s core word =
     chosen_holds held (in_range core word) _ s (added (held s) core word)
-    (λ range. let (low, short) = and_parts _ _ range in rows.with_bit_bits s.rows core word (ltb-true core 8 low) (omega (arith, ltb-true word 4096 short)))
+    (λ range. let (low, short) = and_parts _ _ range in rows.with_bit_bits s.rows core word (ltb-true core 8 low) (div_below word 64 64 (ltb-true 0 64 refl) (ltb-true word 4096 short)))
 
 -- after a take in the core's set has the other core's words more, and no other
 pub taken_in_holds : (s : Exact) (core other d v : ℕ) → held (taken_in s core other) d v ≡ rows_taken_in (held s) core other d v

@@ -1,29 +1,17 @@
 -- Eight rows of bits: what they mean, and what they are after each operation; the facts beside them show which bits they then have,
 -- to the bit. Assumes nothing.
-use Rattle.std.specs.Prelude.{◌≡◌, ℕ, ◌/◌, ◌<◌, cond, ◌&&◌, List, [], length, set, replicate, nat_lt}
-use Rattle.std.specs.List.{All}
-use Rattle.std.proofs.Common.{◌∙◌, sym, ap, ⊎_elim, arith, length-set}
-use Rattle.std.proofs.lemmas.Bool.{cases_eq, ltb-true, and_parts}
-use Rattle.std.proofs.lemmas.Grind.{get_or-set_at}
-use Rattle.std.proofs.lemmas.List.{get_or-set_other, length-replicate}
+use Rattle.std.specs.Prelude.{◌≡◌, ℕ, ◌/◌, ◌<◌, cond, ◌&&◌, List, [], length, replicate, nat_lt}
+use Rattle.std.proofs.Common.{◌∙◌, length-set}
+use Rattle.std.proofs.lemmas.Bool.{ltb-true, and_parts}
+use Rattle.std.proofs.lemmas.List.{length-replicate}
 use Rattle.std.proofs.lemmas.List.Elements.{All-replicate}
 use Rattle.sets.specs.Sentences.{Sets}
 use Rattle.sets.specs.Rows.{added, rows_taken_in, rows_cleared}
 use Rattle.sets.specs.Rows as rows
 use Rattle.sets.specs.Tables.{row_of, rows_of}
 use Rattle.sets.specs.Tables as tables
-use Rattle.sets.proofs.Rows.{chosen_holds, length_joined, rows_with_bit, rows_joined, rows_emptied}
+use Rattle.sets.proofs.Rows.{chosen_holds, length_joined, wide, rows_with_bit, rows_joined, rows_emptied}
 use Rattle.signature.specs.declared.rows.Rows.{Rows}
-
--- a table in which one row is written keeps the width of its rows
-pub wide : (W c : ℕ) (table : List (List ℕ)) (row : List ℕ) → All (λ r. length r ≡ W) table → (c < length table → length row ≡ W) →
-    All (λ r. length r ≡ W) (set table c row)
-wide W c table row all fits k d h =
-    let within : k < length table = omega (arith, h, length-set table c row) in
-    ⊎_elim
-    (λ e. let here : c < length table = omega (arith, e, within) in ap length (get_or-set_at table c k row d e here) ∙ fits here)
-    (λ ne. ap length (get_or-set_other table c k row d ne) ∙ all k d within)
-    (cases_eq k c)
 
 module _ {W : ℕ} where
   -- whether a bit of a core is set in its row, as a test of (core, bit)
@@ -68,28 +56,21 @@ module _ {W : ℕ} where
   -- with a bit set that the row has, that bit is set, and no other
   pub with_bit_bits : (r : Rows W) (c x : ℕ) → c < 8 → x / 64 < W → (d y : ℕ) → bits (with_bit r c x) d y ≡ added (bits r) c x d y
   unfolding with_bit
-  with_bit_bits r c x hc hx d y =
-      let within : c < length r.table = omega (arith, r.cores) in
-      let width : length (row_of r.table c) ≡ W = r.widths c [] within in
-      rows_with_bit r.table c d y x within (omega (arith, width, hx))
+  with_bit_bits r c x low = rows_with_bit W r.table r.cores r.widths c low x
 
   -- after a take in the other core's bits are set in the core's row, and no other
   pub taken_in_bits : (r : Rows W) (c e d y : ℕ) → bits (taken_in r c e) d y ≡ rows_taken_in (bits r) c e d y
   unfolding joined
   taken_in_bits r c e =
       chosen_holds bits (nat_lt c 8 && nat_lt e 8) (joined r c e) r (rows.joined (bits r) c e)
-      (λ range d y.
-      let p = and_parts (nat_lt c 8) (nat_lt e 8) range in
-      let within : c < length r.table = omega (arith, r.cores, ltb-true c 8 p.0) in
-      let other : e < length r.table = omega (arith, r.cores, ltb-true e 8 p.1) in
-      rows_joined r.table c d y e within (r.widths e [] other ∙ sym (r.widths c [] within)))
+      (λ range. let (low, other) = and_parts (nat_lt c 8) (nat_lt e 8) range in
+      rows_joined W r.table r.cores r.widths c (ltb-true c 8 low) e (ltb-true e 8 other))
 
   -- after a clear no bit of the core's row is set
   pub cleared_bits : (r : Rows W) (c d y : ℕ) → bits (cleared r c) d y ≡ rows_cleared (bits r) c d y
   unfolding emptied
   cleared_bits r c =
-      chosen_holds bits (nat_lt c 8) (emptied r c) r (rows.emptied (bits r) c)
-      (λ range d y. let low = ltb-true c 8 range in rows_emptied r.table c d y W (omega (arith, r.cores, low)))
+      chosen_holds bits (nat_lt c 8) (emptied r c) r (rows.emptied (bits r) c) (λ low. rows_emptied W r.table r.cores r.widths c (ltb-true c 8 low))
 
 -- rows without bits
 unfoldable pub blank : (W : ℕ) → Rows W
