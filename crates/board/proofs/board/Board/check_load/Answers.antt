@@ -28,9 +28,9 @@ returns-in_err-check_load_mode-clause-told g c =
     let mode = rw (found.0, found.1) at c.in_err-check_load_mode.ensures in
     rw (p.1, p.2)
     (λ accesses m.
-        mode accesses m
-        ∙ (row_past _ _ waiting
-        ∙ first_past (rows (setting_of b) (ledger_of b accesses) (Evict c.args.core c.args.word)) _ (c.in_ok-core.ensures.told accesses m)))
+    mode accesses m
+    ∙ (row_past _ _ waiting
+    ∙ first_past (rows (setting_of b) (ledger_of b accesses) (Evict c.args.core c.args.word)) _ (c.in_ok-core.ensures.told accesses m)))
 
 pub returns-clause-told : goal.returns-clause-told
 returns-clause-told g c =

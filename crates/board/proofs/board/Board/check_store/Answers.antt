@@ -32,9 +32,9 @@ returns-in_err-check_store_mode-clause-told g c =
     let mode = rw (found.0, found.1) at c.in_err-check_store_mode.ensures in
     rw (p.1, p.2)
     (λ value accesses m.
-        first_met (store_rows (mode_of (figures b.memory.figures) b.plan c.args.word) (locks_of b.locks) accesses c.args.core c.args.word) _ _ (mode accesses m)
-        ∙ (row_past _ _ waiting
-        ∙ first_past (rows (setting_of b) (ledger_of b accesses) (Evict c.args.core c.args.word)) _ (c.in_ok-core.ensures.told accesses m)))
+    first_met (store_rows (mode_of (figures b.memory.figures) b.plan c.args.word) (locks_of b.locks) accesses c.args.core c.args.word) _ _ (mode accesses m)
+    ∙ (row_past _ _ waiting
+    ∙ first_past (rows (setting_of b) (ledger_of b accesses) (Evict c.args.core c.args.word)) _ (c.in_ok-core.ensures.told accesses m)))
 
 pub returns-in_err-check_allowance-clause-told : goal.returns-in_err-check_allowance-clause-told
 returns-in_err-check_allowance-clause-told g c =
@@ -46,11 +46,11 @@ returns-in_err-check_allowance-clause-told g c =
     let spent = rw found.0 at c.in_err-check_allowance.ensures.told in
     rw (p.1, p.2)
     (λ value accesses m.
-        spent
-        ∙ (row_last _
-        ∙ (first_past (store_rows (mode_of (figures b.memory.figures) b.plan c.args.word) (locks_of b.locks) accesses c.args.core c.args.word) _ (mode accesses m)
-        ∙ (row_past _ _ waiting
-        ∙ first_past (rows (setting_of b) (ledger_of b accesses) (Evict c.args.core c.args.word)) _ (c.in_ok-core.ensures.told accesses m)))))
+    spent
+    ∙ (row_last _
+    ∙ (first_past (store_rows (mode_of (figures b.memory.figures) b.plan c.args.word) (locks_of b.locks) accesses c.args.core c.args.word) _ (mode accesses m)
+    ∙ (row_past _ _ waiting
+    ∙ first_past (rows (setting_of b) (ledger_of b accesses) (Evict c.args.core c.args.word)) _ (c.in_ok-core.ensures.told accesses m)))))
 
 pub returns-clause-told : goal.returns-clause-told
 returns-clause-told g c =
