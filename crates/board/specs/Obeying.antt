@@ -64,35 +64,30 @@ pub record Unaltered {P S : Type 0} (words : P → List Word) (before after : Bo
   pub races : after.races ≡ before.races
   pub signature : after.signature ≡ before.signature
 
--- what a load answers, as an answer of the rules
-abbrev pub of_load : Result (Word × ℕ) Refusal → Result Answer Refusal
-of_load (Ok p) = Ok (Loaded p.0 p.1)
-of_load (Err r) = Err r
+-- what a call answers, by what it gives if it is accepted
+abbrev pub answered : {X : Type 0} → (X → Answer) → Result X Refusal → Result Answer Refusal
+answered tell (Ok x) = Ok (tell x)
+answered tell (Err r) = Err r
 
--- what a store answers
-abbrev pub of_store : Result (ℕ × Mark) Refusal → Result Answer Refusal
-of_store (Ok p) = Ok (Stored p.0 p.1)
-of_store (Err r) = Err r
+-- what a load gives, as an answer of the rules
+abbrev pub load_given : Word × ℕ → Answer
+load_given p = Loaded p.0 p.1
 
--- what an evict answers
-abbrev pub of_evict : Result State Refusal → Result Answer Refusal
-of_evict (Ok state) = Ok (Done (number_of state))
-of_evict (Err r) = Err r
+-- what a store gives
+abbrev pub store_given : ℕ × Mark → Answer
+store_given p = Stored p.0 p.1
 
--- what an acquire answers
-abbrev pub of_acquire : Result Grant Refusal → Result Answer Refusal
-of_acquire (Ok grant) = Ok (Done (grant_number grant))
-of_acquire (Err r) = Err r
+-- what an evict gives
+abbrev pub evict_given : State → Answer
+evict_given state = Done (number_of state)
 
--- what a release answers
-abbrev pub of_release : Result (Option ℕ) Refusal → Result Answer Refusal
-of_release (Ok next) = Ok (Done (passed_number next))
-of_release (Err r) = Err r
+-- what an acquire gives
+abbrev pub acquire_given : Grant → Answer
+acquire_given grant = Done (grant_number grant)
 
--- what any other call answers
-abbrev pub of_other : Result ℕ Refusal → Result Answer Refusal
-of_other (Ok n) = Ok (Done n)
-of_other (Err r) = Err r
+-- what a release gives
+abbrev pub release_given : Option ℕ → Answer
+release_given next = Done (passed_number next)
 
 -- the refusal of a check, if it refuses
 abbrev pub refused_by : {X : Type 0} → Result X Refusal → Option Refusal

@@ -4,7 +4,7 @@ ghost use Rattle.call.specs.Figures.{figures};
 ghost use Rattle.call.specs.declared.answer.Answer.TheVariants.{Loaded};
 ghost use Rattle.call.specs.declared.call.Call.TheVariants.{Load};
 ghost use Rattle.rules.specs.Plans.{mode_of, is_locked};
-ghost use Rattle.board.specs.Obeying.{Performs, Obeys, of_load};
+ghost use Rattle.board.specs.Obeying.{Performs, Obeys, answered, load_given};
 
 use super::Board;
 use call::{Access, Refusal};
@@ -38,7 +38,7 @@ impl<P: PageStore, S: Signature> Board<P, S> {
     /// no such core, 2 no such word, 3 the core waits, 5 the strip is locked and the core does not hold its lock, 6 another core
     /// stored the word in this phase of a written strip.
     pub fn load(&mut self, core: u8, word: u16) -> Result<(Word, u8), Refusal>
-        ensures { Obeys P.words S.operations self.old self.new (Load core word) (of_load result) }
+        ensures { Obeys P.words S.operations self.old self.new (Load core word) (answered load_given result) }
     {
         let (core, word) = self.check_load(core, word)?;
         Ok(self.give(core, word))

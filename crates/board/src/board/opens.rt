@@ -61,15 +61,6 @@ impl<P: PageStore, S: Signature> Board<P, S> {
         ensures page { result.0 ≡ self.memory.page }
         ensures signature { result.1 ≡ self.signature }
     {
-        let Board {
-            memory,
-            signature,
-            locks: _,
-            races: _,
-            counts: _,
-            plan: _,
-            size: _,
-        } = self;
-        (memory.into_page(), signature)
+        (self.memory.into_page(), self.signature)
     }
 }

@@ -5,7 +5,7 @@ ghost use Rattle.call.specs.declared.call.Call.TheVariants.{Phase, Settle};
 ghost use Rattle.memory.specs.Views.{five_of, view as memory_view};
 ghost use Rattle.rules.specs.Effects.{fade};
 ghost use Rattle.rules.specs.Steps.{changed_by, clear_all};
-ghost use Rattle.board.specs.Obeying.{Performs, Obeys, of_other};
+ghost use Rattle.board.specs.Obeying.{Performs, Obeys, answered};
 
 use super::Board;
 use call::Refusal;
@@ -22,19 +22,6 @@ pub(super) fn clear_all<S: Signature>(signature: &mut S)
     }
 }
 
-// Ends the phase under the plan in force, which is the one that copies go by, and puts the next plan in its place. How many copies were
-// dropped.
-fn turn_plan<P: PageStore>(memory: &mut Memory<P>, plan: &mut u64, next: u64) -> u16
-    ensures figures { memory.new.figures ≡ memory.old.figures }
-    ensures answer { result ≡ (fade (five_of memory.old) plan.old (memory_view P.words memory.old)).answer }
-    ensures after { memory_view P.words memory.new ≡ (fade (five_of memory.old) plan.old (memory_view P.words memory.old)).memory }
-    ensures plan { plan.new ≡ next }
-{
-    let dropped = memory.fade(*plan);
-    *plan = next;
-    dropped
-}
-
 impl<P: PageStore, S: Signature> Board<P, S> {
     /// Writes every registered copy to the page: each becomes valid and its word has no owner any more. How many there were. It is never
     /// refused.
@@ -44,11 +31,12 @@ impl<P: PageStore, S: Signature> Board<P, S> {
         self.memory.settle()
     }
 
-    // A phase call that no check refuses.
+    // A phase call that no check refuses. Copies go by the plan in force, which then makes way for the next.
     fn begin(&mut self, plan: u64) -> u16
         ensures { Performs P.words S.operations self.old self.new (Phase plan) (Ok (Done result)) }
     {
-        let dropped = turn_plan(&mut self.memory, &mut self.plan, plan);
+        let dropped = self.memory.fade(self.plan);
+        self.plan = plan;
         clear_all(&mut self.signature);
         self.locks.forget_releasers();
         self.races.forget();
@@ -59,7 +47,7 @@ impl<P: PageStore, S: Signature> Board<P, S> {
     /// all signatures are cleared, and last releasers and the phase's accesses are forgotten. How many copies were dropped. Refused
     /// in this order: 11 the plan has a mode from 2 to 7, 12 some lock is held.
     pub fn phase(&mut self, plan: u64) -> Result<u16, Refusal>
-        ensures { Obeys P.words S.operations self.old self.new (Phase plan) (of_other result) }
+        ensures { Obeys P.words S.operations self.old self.new (Phase plan) (answered Done result) }
     {
         self.check_phase(plan)?;
         Ok(self.begin(plan))

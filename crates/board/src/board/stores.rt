@@ -8,7 +8,7 @@ ghost use Rattle.rules.specs.Plans.{is_locked};
 ghost use Rattle.rules.specs.Steps.{put, changed_by};
 ghost use Rattle.word.specs.Lawful.{mark_of};
 ghost use Rattle.word.specs.Marks.{mark_at};
-ghost use Rattle.board.specs.Obeying.{Performs, Obeys, of_store, of_evict};
+ghost use Rattle.board.specs.Obeying.{Performs, Obeys, answered, store_given, evict_given};
 ghost use Rattle.board.specs.Views.{counts_of};
 
 use super::Board;
@@ -57,7 +57,7 @@ impl<P: PageStore, S: Signature> Board<P, S> {
     /// core, 2 no such word, 3 the core waits, 4 the strip is read-only, 5 it is locked and the core does not hold its lock, 6 another
     /// core stored the word, or loaded it, in this phase of a written strip, 7 the core has made as many stores as it is allowed.
     pub fn store(&mut self, core: u8, word: u16, value: u32) -> Result<(u8, Mark), Refusal>
-        ensures { Obeys P.words S.operations self.old self.new (Store core word value) (of_store result) }
+        ensures { Obeys P.words S.operations self.old self.new (Store core word value) (answered store_given result) }
     {
         let (core, word) = self.check_store(core, word)?;
         Ok(self.put(core, word, value))
@@ -73,7 +73,7 @@ impl<P: PageStore, S: Signature> Board<P, S> {
     /// Gives up a core's copy of a word, and tells the state of that copy: invalid without a copy, valid, or registered, which is written
     /// to the page. Refused in this order: 1 there is no such core, 2 no such word.
     pub fn evict(&mut self, core: u8, word: u16) -> Result<State, Refusal>
-        ensures { Obeys P.words S.operations self.old self.new (Evict core word) (of_evict result) }
+        ensures { Obeys P.words S.operations self.old self.new (Evict core word) (answered evict_given result) }
     {
         let (core, word) = self.check_word(core, word)?;
         Ok(self.give_up(core, word))

@@ -4,7 +4,7 @@ ghost use Rattle.call.specs.declared.call.Call.TheVariants.{Acquire, Release};
 ghost use Rattle.locks.specs.Rows.{granted};
 ghost use Rattle.locks.specs.Views.{locks_of};
 ghost use Rattle.rules.specs.Steps.{changed_by};
-ghost use Rattle.board.specs.Obeying.{Obeys, of_acquire, of_release};
+ghost use Rattle.board.specs.Obeying.{Obeys, answered, acquire_given, release_given};
 ghost use Rattle.board.specs.Turns.{taken_on, handed_on};
 
 use super::Board;
@@ -36,7 +36,7 @@ impl<P: PageStore, S: Signature> Board<P, S> {
     /// core waits as the last in its queue. Refused in this order: 1 there is no such core, 3 the core waits, 8 there is no such lock,
     /// 9 the core holds a lock.
     pub fn acquire(&mut self, core: u8, lock: u8) -> Result<Grant, Refusal>
-        ensures obeys { Obeys P.words S.operations self.old self.new (Acquire core lock) (of_acquire result) }
+        ensures obeys { Obeys P.words S.operations self.old self.new (Acquire core lock) (answered acquire_given result) }
         ensures grant { IfOk result (λ grant. grant ≡ granted (locks_of self.old.locks lock).holder (locks_of self.old.locks lock)) }
     {
         self.check_core(core)?;
@@ -49,7 +49,7 @@ impl<P: PageStore, S: Signature> Board<P, S> {
     /// nobody waits. Refused in this order: 1 there is no such core, 3 the core waits, 8 there is no such lock, 10 the core does not
     /// hold it.
     pub fn release(&mut self, core: u8, lock: u8) -> Result<Option<u8>, Refusal>
-        ensures { Obeys P.words S.operations self.old self.new (Release core lock) (of_release result) }
+        ensures { Obeys P.words S.operations self.old self.new (Release core lock) (answered release_given result) }
     {
         self.check_core(core)?;
         let next = self.locks.release(core, lock)?;

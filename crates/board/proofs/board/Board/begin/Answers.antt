@@ -6,12 +6,12 @@ use Rattle.board.proofs.board.Board.begin.Goals as goal
 pub returns : goal.returns
 returns g c =
     record {
-      figures = c.turn_plan-dropped.ensures.figures;
+      figures = c.fade-dropped.ensures.figures;
       size = refl;
       rules = λ accesses m.
           record {
-            answer = ap (λ n. Ok (Done n)) c.turn_plan-dropped.ensures.answer;
-            state = same_state c.turn_plan-dropped.ensures.after c.forget_releasers.ensures refl c.turn_plan-dropped.ensures.plan;
+            answer = ap (λ n. Ok (Done n)) c.fade-dropped.ensures.answer;
+            state = same_state c.fade-dropped.ensures.after c.forget_releasers.ensures refl refl;
             remembers = c.forget.ensures;
             signature = c.clear_all.ensures;
           };
