@@ -17,28 +17,6 @@ use races::Races;
 use signature::Signature;
 
 impl<P: PageStore, S: Signature> Board<P, S> {
-    // A board of an opened memory, on which no call was made yet.
-    fn assemble(memory: Memory<P>, signature: S, size: u16) -> Board<P, S>
-        requires { size ≤ 4096 }
-        ensures memory { result.memory ≡ memory }
-        ensures signature { result.signature ≡ signature }
-        ensures locks { locks_of result.locks ≡ (λ _. free) }
-        ensures remembers { Remembers result.races [] }
-        ensures counts { result.counts ≡ replicate 8 0 }
-        ensures plan { result.plan ≡ 0 }
-        ensures size { result.size ≡ size }
-    {
-        Board {
-            memory,
-            signature,
-            locks: Locks::free(),
-            races: Races::new(),
-            counts: [0; 8],
-            plan: 0,
-            size,
-        }
-    }
-
     /// Opens a board: its size is the smaller of its figures' words and the page's size. Each page word below that keeps its value and
     /// loses its mark, and words from there on stay; signatures are cleared, caches empty, no word has an owner, locks are free and every
     /// strip is read-only. It is never refused.
@@ -52,7 +30,15 @@ impl<P: PageStore, S: Signature> Board<P, S> {
         let memory = Memory::open(figures, page);
         let size = memory.size();
         clear_all(&mut signature);
-        Board::assemble(memory, signature, size)
+        Board {
+            memory,
+            signature,
+            locks: Locks::free(),
+            races: Races::new(),
+            counts: [0; 8],
+            plan: 0,
+            size,
+        }
     }
 
     /// Takes the board apart: its page, on which words whose registered copy was not settled are as they were before, and its
