@@ -7,8 +7,9 @@ use Rattle.call.specs.declared.answer.AnswerRecord.{AnswerRecord}
 use Rattle.call.specs.declared.call.Call.{Call}
 use Rattle.call.specs.declared.refusal.Refusal.{Refusal}
 use Rattle.locks.specs.declared.grant.Grant.{Grant}
-use Rattle.memory.specs.Entries.{number_of}
+use Rattle.memory.specs.Entries.{number_of, number_of_owner}
 use Rattle.memory.specs.Views as memory
+use Rattle.memory.specs.declared.entry.Owner.{Owner}
 use Rattle.memory.specs.declared.entry.State.{State}
 use Rattle.races.specs.Remembered.{Remembers}
 use Rattle.rules.specs.Refusals.{refusal}
@@ -74,8 +75,8 @@ abbrev pub load_given : Word × ℕ → Answer
 load_given p = Loaded p.0 p.1
 
 -- what a store gives
-abbrev pub store_given : ℕ × Mark → Answer
-store_given p = Stored p.0 p.1
+abbrev pub store_given : Owner × Mark → Answer
+store_given p = Stored (number_of_owner p.0) p.1
 
 -- what an evict gives
 abbrev pub evict_given : State → Answer

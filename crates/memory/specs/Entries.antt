@@ -10,6 +10,8 @@ use Rattle.memory.specs.declared.entry.Event.TheVariants.{Settle, Evict, Taken, 
 use Rattle.memory.specs.declared.entry.Done.{Done}
 use Rattle.memory.specs.declared.entry.Done.TheVariants.{Kept, Dropped, Written, Taken as Lost}
 use Rattle.memory.specs.declared.entry.Entry.{Entry}
+use Rattle.memory.specs.declared.entry.Owner.{Owner}
+use Rattle.memory.specs.declared.entry.Owner.TheVariants.{Itself, Nobody, Another}
 
 -- the copy of a state, a place and a word
 abbrev pub copy_by : State → ℕ → Word → Copy
@@ -30,6 +32,12 @@ abbrev pub number_of : State → ℕ
 number_of Invalid = 0
 number_of Valid = 1
 number_of Registered = 2
+
+-- the number of who owned a word, as a store answers it: 0 the core itself, 1 nobody, 2 another core
+abbrev pub number_of_owner : Owner → ℕ
+number_of_owner Itself = 0
+number_of_owner Nobody = 1
+number_of_owner Another = 2
 
 -- the state that an event leaves: what counts is written and stays readable when it is settled, and goes when its core gives it
 -- up or another core stores the word; what does not count goes but at a settle

@@ -14,6 +14,17 @@ pub enum State {
     Registered,
 }
 
+/// Who owned a word when it was stored.
+#[derive(Clone, Copy, PartialEq, Eq, Debug)]
+pub enum Owner {
+    /// The core that stores it.
+    Itself,
+    /// No core.
+    Nobody,
+    /// Another core, whose copy is gone then.
+    Another,
+}
+
 /// What can happen to an entry in its slot.
 #[derive(Clone, Copy)]
 pub enum Event {

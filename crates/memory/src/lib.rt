@@ -8,6 +8,6 @@ pub mod memory;
 pub mod mode;
 
 pub use bounds::{Below, Core, Place};
-pub use entry::{Done, Entry, Event, State};
+pub use entry::{Done, Entry, Event, Owner, State};
 pub use memory::Memory;
 pub use mode::{Mode, has_bad_mode, mode_of};

@@ -19,8 +19,8 @@ impl<P: PageStore, S: Signature> Board<P, S> {
                 Answer::Loaded(word, source)
             }
             Call::Store(core, word, value) => {
-                let (answer, mark) = self.store(core, word, value)?;
-                Answer::Stored(answer, mark)
+                let (owner, mark) = self.store(core, word, value)?;
+                Answer::Stored(owner as u8, mark)
             }
             Call::Evict(core, word) => Answer::Done(self.evict(core, word)? as u16),
             Call::Acquire(core, lock) => Answer::Done(match self.acquire(core, lock)? {

@@ -1,6 +1,6 @@
 //! Stores and evictions.
 ghost use Rattle.std.specs.Prelude.{◌≡◌, ◌+◌, ◌<◌, [], ◌∷◌, if◌then◌else◌, Ok};
-ghost use Rattle.call.specs.declared.answer.Answer.TheVariants.{Stored, Done};
+ghost use Rattle.call.specs.declared.answer.Answer.TheVariants.{Done};
 ghost use Rattle.call.specs.declared.call.Call.TheVariants.{Store, Evict};
 ghost use Rattle.memory.specs.Entries.{number_of};
 ghost use Rattle.memory.specs.Modes.{mode_in};
@@ -13,7 +13,7 @@ ghost use Rattle.board.specs.Views.{counts_of};
 
 use super::Board;
 use call::{Access, Refusal};
-use memory::{Core, Mode, Place, State};
+use memory::{Core, Mode, Owner, Place, State};
 use page::PageStore;
 use signature::Signature;
 use word::{Mark, Word};
@@ -39,24 +39,24 @@ impl<P: PageStore, S: Signature> Board<P, S> {
     }
 
     // A store that no check refuses.
-    fn put(&mut self, core: Core, word: Place, value: u32) -> (u8, Mark)
+    fn put(&mut self, core: Core, word: Place, value: u32) -> (Owner, Mark)
         requires { counts_of self.old.counts core.number < 1000000 }
-        ensures { Performs P.words S.operations self.old self.new (Store core.number word.number value) (Ok (Stored result.0 result.1)) }
+        ensures { Performs P.words S.operations self.old self.new (Store core.number word.number value) (Ok (store_given result)) }
     {
         let mode = self.mode(word);
         let mark = self.next_mark(core);
-        let answer = self.memory.store(core, word, Word { value, mark });
+        let owner = self.memory.store(core, word, Word { value, mark });
         self.races.note(Access::Store, core.into(), word.into());
         self.counts[u8::from(core) as usize] += 1;
         sign(&mut self.signature, mode, core, word);
-        (answer, mark)
+        (owner, mark)
     }
 
-    /// Stores a value to a word of a core: 0 into its own registered copy, 1 into a new one of a word without an owner, 2 of a word that
-    /// another core owned, whose copy is gone then; with the mark that the word is given. Refused in this order: 1 there is no such
+    /// Stores a value to a word of a core, and tells who owned the word: the core itself, which stores into its own registered copy, nobody,
+    /// or another core, whose copy is gone then; with the mark that the word is given. Refused in this order: 1 there is no such
     /// core, 2 no such word, 3 the core waits, 4 the strip is read-only, 5 it is locked and the core does not hold its lock, 6 another
     /// core stored the word, or loaded it, in this phase of a written strip, 7 the core has made as many stores as it is allowed.
-    pub fn store(&mut self, core: u8, word: u16, value: u32) -> Result<(u8, Mark), Refusal>
+    pub fn store(&mut self, core: u8, word: u16, value: u32) -> Result<(Owner, Mark), Refusal>
         ensures { Obeys P.words S.operations self.old self.new (Store core word value) (answered store_given result) }
     {
         let (core, word) = self.check_store(core, word)?;

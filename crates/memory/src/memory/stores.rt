@@ -3,14 +3,14 @@ ghost use Rattle.std.specs.Prelude.{◌≡◌, true, false, get_or, Some, None, 
 ghost use Rattle.call.specs.Figures.{slot_of};
 ghost use Rattle.rules.specs.Effects.{store as rule, claim as claimed, evict as evicted, is_registered as counts, with_copy, write_back};
 ghost use Rattle.rules.specs.State.{copy_of, invalid, registered};
-ghost use Rattle.memory.specs.Entries.{empty, number_of};
+ghost use Rattle.memory.specs.Entries.{empty, number_of, number_of_owner};
 ghost use Rattle.memory.specs.Owners.{index_of, is_registered};
 ghost use Rattle.memory.specs.Views.{view, five_of, source_by, taken_by};
 ghost use Rattle.memory.specs.declared.entry.State.TheVariants.{Registered};
 
 use super::Memory;
 use crate::bounds::{Core, Place, Seat};
-use crate::entry::{Entry, Event, State};
+use crate::entry::{Entry, Event, Owner, State};
 use page::PageStore;
 use word::Word;
 
@@ -46,43 +46,43 @@ impl<P: PageStore> Memory<P> {
         self.owners[word.number as usize] = Some(at.core);
     }
 
-    // Takes a word from its owner, if it has one: 1 without an owner, 2 with one, who has no copy any more.
-    fn take(&mut self, word: Place) -> u8
-        ensures answer { result ≡ source_by (slice_index_or self.old.owners word.number None) }
+    // Takes a word from its owner, if it has one, who has no copy any more then: whether nobody owned it, or another core.
+    fn take(&mut self, word: Place) -> Owner
+        ensures answer { number_of_owner result ≡ source_by (slice_index_or self.old.owners word.number None) }
         ensures figures { self.new.figures ≡ self.old.figures }
         ensures entries { self.new.entries ≡ taken_by (slice_index_or self.old.owners word.number None) (five_of self.old) self.old.entries word.number }
         ensures owners { self.new.owners ≡ slice_set self.old.owners word.number None }
         ensures page { P.words self.new.page ≡ P.words self.old.page }
     {
         match self.owner_at(word) {
-            None => 1,
+            None => Owner::Nobody,
             Some(owner) => {
                 let at = self.seat(owner, word);
                 let _ = self.turn_at(at, Event::Taken);
-                2
+                Owner::Another
             }
         }
     }
 
     // A store of a core that has no registered copy of the word: the slot's old word makes way, whoever owns the word loses
     // it, and the core becomes owner. After the write back the core itself is not the owner.
-    fn claim(&mut self, core: Core, word: Place, stored: Word) -> u8
+    fn claim(&mut self, core: Core, word: Place, stored: Word) -> Owner
         ensures figures { self.new.figures ≡ self.old.figures }
-        ensures answer { result ≡ (claimed (five_of self.old) (view P.words self.old) core.number word.number stored).answer }
+        ensures answer { number_of_owner result ≡ (claimed (five_of self.old) (view P.words self.old) core.number word.number stored).answer }
         ensures after { view P.words self.new ≡ (claimed (five_of self.old) (view P.words self.old) core.number word.number stored).memory }
     {
         let at = self.seat(core, word);
         let _ = self.write_back(at);
-        let answer = self.take(word);
+        let owner = self.take(word);
         self.register(at, word, stored);
-        answer
+        owner
     }
 
-    /// Stores a word of a core: 0 into its own registered copy, 1 into a new one of a word without an owner, 2 of a word that
-    /// another core owned, whose copy is gone then. The core owns the word from now on.
-    pub fn store(&mut self, core: Core, word: Place, stored: Word) -> u8
+    /// Stores a word of a core, and tells who owned the word: the core itself, which stores into its own registered copy, or nobody,
+    /// or another core, whose copy is gone then. The core owns the word from now on.
+    pub fn store(&mut self, core: Core, word: Place, stored: Word) -> Owner
         ensures figures { self.new.figures ≡ self.old.figures }
-        ensures answer { result ≡ (rule (five_of self.old) (view P.words self.old) core.number word.number stored).answer }
+        ensures answer { number_of_owner result ≡ (rule (five_of self.old) (view P.words self.old) core.number word.number stored).answer }
         ensures after { view P.words self.new ≡ (rule (five_of self.old) (view P.words self.old) core.number word.number stored).memory }
     {
         let (state, _) = self.found(core, word);
@@ -90,7 +90,7 @@ impl<P: PageStore> Memory<P> {
             State::Invalid | State::Valid => self.claim(core, word, stored),
             State::Registered => {
                 self.rewrite(core, word, stored);
-                0
+                Owner::Itself
             }
         }
     }

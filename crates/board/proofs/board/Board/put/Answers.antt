@@ -19,10 +19,10 @@ invariant_of-self-clause-some g c = some_kept c.args.self.now.races c.note.new.s
 pub returns : goal.returns
 unfolding counts_of
 returns g c =
-    let answer = rw c.next_mark-mark.ensures at c.store-answer.ensures.answer in
-    let after = rw c.next_mark-mark.ensures at c.store-answer.ensures.after in
+    let answer = rw c.next_mark-mark.ensures at c.store-owner.ensures.answer in
+    let after = rw c.next_mark-mark.ensures at c.store-owner.ensures.after in
     record {
-      figures = c.store-answer.ensures.figures;
+      figures = c.store-owner.ensures.figures;
       size = refl;
       rules = λ accesses m.
           record {
