@@ -1,49 +1,12 @@
--- A line can be read back: a run of digits ends at the first byte that is none, so its number, and after it the core, the
--- verb by its first letter and the other numbers, are found again. Lines that can be read back are apart.
--- Assumes nothing.
-use Rattle.std.proofs.Common.{◌≡◌, ℕ, ◌^◌, ◌<◌, Bool, false, cond, eqb, ltb, List, [], ◌∷◌, ◌++◌, get_or, drop, decimal, sym, refl, ap, ◌∙◌, arith}
-use Rattle.std.proofs.lemmas.Fmt.{decimal_is_IsNumeral}
-use Rattle.std.proofs.lemmas.Bool.{lt-ltb}
-use Rattle.std.specs.Str.Parse.{digits_value, AllDigits}
-use Rattle.std.specs.Char.{digit_value}
+-- A line can be read back: its number, and after it the core, the verb by its first letter and the other numbers, are found
+-- again. Lines that can be read back are apart. Assumes nothing.
+use Rattle.std.proofs.Common.{◌≡◌, ℕ, ◌^◌, ◌<◌, cond, eqb, List, [], ◌∷◌, get_or, drop, sym, refl, ap, ◌∙◌, arith}
 use Rattle.call.specs.declared.call.Call.{Call}
 use Rattle.call.specs.declared.call.Call.TheVariants as call
 use Rattle.job.specs.Encoding.{LawfulCall}
+use Rattle.lines.proofs.ReadBack.{past, number_in, number_back}
 use Rattle.listing.specs.Laws.{LinesApart}
 use Rattle.listing.specs.Lines.{call_line, core_line}
-
-abbrev is_digit : ℕ → Bool
-is_digit b = ltb (digit_value b) 10
-
--- the digits that a text begins with
-abbrev lead : List ℕ → List ℕ
-lead [] = []
-lead (b ∷ bs) = cond (is_digit b) (b ∷ lead bs) []
-
--- the text past them
-abbrev past : List ℕ → List ℕ
-past [] = []
-past (b ∷ bs) = cond (is_digit b) (past bs) (b ∷ bs)
-
--- the number that a text begins with
-abbrev number_in : List ℕ → ℕ
-number_in bs = digits_value 10 (lead bs)
-
-split : (ds : List ℕ) (x : ℕ) (xs : List ℕ) → AllDigits 10 ds → is_digit x ≡ false → (lead (ds ++ x ∷ xs) ≡ ds) × (past (ds ++ x ∷ xs) ≡ x ∷ xs)
-split [] x xs u f = (ap (λ (b : Bool). cond b (x ∷ lead xs) []) f, ap (λ (b : Bool). cond b (past xs) (x ∷ xs)) f)
-split (d ∷ ds) x xs u f =
-    let digit = lt-ltb (digit_value d) 10 u.0 in
-    let rest = split ds x xs u.1 f in (
-      ap (λ (b : Bool). cond b (d ∷ lead (ds ++ x ∷ xs)) []) digit ∙ ap (λ (es : List ℕ). d ∷ es) rest.0,
-      ap (λ (b : Bool). cond b (past (ds ++ x ∷ xs)) (d ∷ (ds ++ x ∷ xs))) digit ∙ rest.1,
-    )
-
--- a number before a byte that is no digit is read back
-number_back : (n x : ℕ) (xs : List ℕ) → n < 2 ^ 64 → is_digit x ≡ false → (number_in (decimal n ++ x ∷ xs) ≡ n) × (past (decimal n ++ x ∷ xs) ≡ x ∷ xs)
-number_back n x xs h f =
-    let reads = decimal_is_IsNumeral n h in
-    let parts = split (decimal n) x xs reads.0.1 f in
-    (ap (digits_value 10) parts.0 ∙ reads.1, parts.1)
 
 -- the call of a core by the text past the core, told by the verb's first letter
 abbrev core_back : ℕ → List ℕ → Call

@@ -1,17 +1,13 @@
 -- The text of a job: a line for its figures and one for each call, or one for its fault. Assumes nothing.
 use Rattle.std.specs.Prelude.{ℕ, zero, suc, ◌+◌, ◌-◌, ◌/◌, ◌%◌, cond, List, [], ◌∷◌, ◌++◌, length, Ok, Err, codes, decimal, Result, ◌==◌, nat_lt}
 use Rattle.call.specs.Figures.{Five}
-use Rattle.call.specs.Told.{fault_told}
 use Rattle.call.specs.declared.call.Call.{Call}
 use Rattle.call.specs.declared.call.Call.TheVariants as call
-use Rattle.call.specs.declared.fault.FaultTold.{FaultTold}
 use Rattle.call.specs.declared.fault.JobFault.{JobFault}
 use Rattle.job.specs.Jobs.{figures_read, calls_read}
 use Rattle.job.specs.Reading.{reading}
-
--- the end of a line
-abbrev pub newline : List ℕ
-newline = 10 ∷ []
+use Rattle.lines.specs.Lines.{fault_line}
+use Rattle.lines.specs.Texts.{newline}
 
 -- the line of a job's figures and the number of its records
 abbrev pub figures_line : Five → ℕ → List ℕ
@@ -72,15 +68,10 @@ abbrev pub call_lines : ℕ → List Call → List ℕ
 call_lines n [] = []
 call_lines n (c ∷ cs) = call_line n c ++ call_lines (n + 1) cs
 
--- the line of a fault by what it tells: its number, its place and the number inside
-abbrev pub told_line : FaultTold → List ℕ
-told_line t =
-    codes "refused " ++ (decimal t.number ++ (codes " " ++ (decimal t.place ++ (codes " " ++ (decimal t.inner ++ newline)))))
-
 -- the text of a job by its verdict and its calls
 abbrev pub text_of : Result Five JobFault → List Call → List ℕ
 text_of (Ok f) cs = figures_line f (length cs) ++ call_lines 1 cs
-text_of (Err e) cs = told_line (fault_told e)
+text_of (Err e) cs = fault_line e
 
 -- the text of a job
 abbrev pub job_text : List ℕ → List ℕ

@@ -3,7 +3,7 @@
 #![tactic(auto)]
 
 use call::{Answer, AnswerRecord, Kind};
-use input::{LONGEST, fill};
+use input::read_job;
 use std::io;
 use std::io::Write;
 use transcript::write_transcript;
@@ -25,11 +25,10 @@ fn unfilled() -> AnswerRecord {
 
 fn main(rt: HostRuntime) -> io::Result<()> {
     let heap = rt.alloc();
-    let mut buffer = vec![in heap; 0u8; LONGEST]?;
+    let job = read_job(heap, rt.stdin())?;
     let mut answers = vec![in heap; unfilled(); MOST]?;
     let mut lines = vec![in heap; 0u8; ROOM]?;
-    let size = fill(&mut rt.stdin(), &mut buffer)?;
-    match write_transcript(&buffer[0..size], &mut answers, &mut lines).size {
+    match write_transcript(&job, &mut answers, &mut lines).size {
         Some(length) => rt.stdout().write_all(&lines[0..length]),
         None => Ok(()),
     }

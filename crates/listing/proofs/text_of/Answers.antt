@@ -1,4 +1,4 @@
-use Rattle.std.proofs.Common.{◌≡◌, ◌++◌, string_bytes, ◌∙◌, rules}
+use Rattle.std.proofs.Common.{◌≡◌, ◌++◌, string_bytes, ◌∙◌}
 use Rattle.std.proofs.lemmas.Result.{IfOk-weaker}
 use Rattle.call.specs.Figures.{figures}
 use Rattle.job.specs.Jobs.{rest, calls_of, verdict_of}
@@ -16,9 +16,3 @@ returns-in_ok-text-in-Ok c =
     ∙ (λ i. figures_line (figures c.in-Ok.figures) (count i) ++ call_lines 1 (calls_of job))
     ∙ (λ i. text_of (c.in-Ok.ensures i) (calls_of job)) in
     record { value = IfOk-weaker c.with_calls.result _ _ (λ s e. e ∙ whole) c.with_calls.ensures; apart = lines_apart }
-
-pub returns-in_err-text-in-Ok : goal.returns-in_err-text-in-Ok
-returns-in_err-text-in-Ok c = record { value = search rules; apart = lines_apart }
-
-pub returns-in-Err : goal.returns-in-Err
-returns-in-Err c = record { value = search rules; apart = lines_apart }

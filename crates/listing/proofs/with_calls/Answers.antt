@@ -1,36 +1,25 @@
-use Rattle.std.proofs.Common.{◌≡◌, ◌+◌, [], ◌++◌, string_bytes, sym, refl, ap, ◌∙◌, arith}
+use Rattle.std.proofs.Common.{ℕ, ◌+◌, ◌++◌, string_bytes, sym, ap, ◌∙◌, rules}
 use Rattle.std.proofs.lemmas.List.{append-nil}
-use Rattle.std.proofs.lemmas.Slice.{pushed}
 use Rattle.job.specs.Jobs.{rest}
-use Rattle.listing.specs.Lines.{call_lines}
-use Rattle.listing.proofs.Texts.{line_step, fewer, none_left}
+use Rattle.listing.specs.Lines.{call_line, call_lines}
+use Rattle.listing.proofs.Texts.{line_step}
 use Rattle.listing.proofs.with_calls.Goals as goal
 
-pub overflow_add-number : goal.overflow_add-number
-overflow_add-number c =
-    let less = fewer (rest c.loop-call.job) (rest c.next_call.new.self) c.in-Some.call c.in-Some.ensures.value c.next_call.ensures.after in
-    let few = c.loop-call.invariant.1 in
-    record { fits = omega arith }
+pub loop-index-init : goal.loop-index-init
+loop-index-init c = search rules
 
-pub loop-call-smaller : goal.loop-call-smaller
-loop-call-smaller c =
-    let less = fewer (rest c.loop-call.job) (rest c.next_call.new.self) c.in-Some.call c.in-Some.ensures.value c.next_call.ensures.after in
-    omega arith
-
-pub loop-call-preserved : goal.loop-call-preserved
-loop-call-preserved c =
-    let less = fewer (rest c.loop-call.job) (rest c.next_call.new.self) c.in-Some.call c.in-Some.ensures.value c.next_call.ensures.after in
-    let few = c.loop-call.invariant.1 in
-    let longer = pushed c.as_str.result.now refl c.in_ok-push_str.was c.push_str.ensures.bytes in (
-      line_step (string_bytes c.loop-call.text) (string_bytes c.push_str.new.self) c.as_str.result.now c.loop-call.number (rest c.loop-call.job) (rest c.next_call.new.self) c.in-Some.call c.in-Some.ensures.value c.next_call.ensures.after longer (c.as_str.ensures.value ∙ c.in_ok-line.ensures)
-          ∙ c.loop-call.invariant.0,
-      omega arith,
-    )
+pub loop-index-preserved : goal.loop-index-preserved
+loop-index-preserved c =
+    let step = c.in-Some.ensures.steps in
+    let before = string_bytes c.loop-index.text in
+    let longer = c.in_ok-write.ensures.bytes ∙ ap (λ (k : ℕ). before ++ call_line (k + 1) c.in-Some.call) step.1 in
+    line_step before (string_bytes c.write.new.self) c.loop-index.index-iterator.count c.next.new.self.count (rest c.loop-index.index-iterator.iter) (rest c.next.new.self.iter) c.in-Some.call step.0 step.2 longer
+    ∙ c.loop-index.invariant
 
 pub returns : goal.returns
 returns c =
-    let text = string_bytes c.loop-call.text in
-    let all : rest c.loop-call.job ≡ [] = none_left (rest c.loop-call.job) c.in_default.ensures.value in
+    let none = c.in-None.ensures.steps in
+    let text = string_bytes c.loop-index.text in
     sym (append-nil text)
-    ∙ ap (λ cs. text ++ call_lines (c.loop-call.number + 1) cs) (sym all)
-    ∙ c.loop-call.invariant.0
+    ∙ ap (λ cs. text ++ call_lines (c.loop-index.index-iterator.count + 1) cs) (sym none.0.0)
+    ∙ c.loop-index.invariant
