@@ -19,7 +19,7 @@ fn unfilled() -> AnswerRecord {
     AnswerRecord {
         caller: 0,
         kind: Kind::Settle,
-        answer: Answer::Done(0),
+        answer: Ok(Answer::Done(0)),
     }
 }
 
