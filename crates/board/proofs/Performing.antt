@@ -1,6 +1,6 @@
 -- What a call leaves, put together from its parts; and that a call which is refused, or performed after its checks, obeys the rules.
 -- Assumes nothing.
-use Rattle.std.proofs.Common.{◌≡◌, ℕ, List, Some, None, Ok, Err, Option, Result, refl, subst}
+use Rattle.std.proofs.Common.{◌≡◌, ℕ, List, Some, None, Err, Option, Result, refl, subst}
 use Rattle.call.specs.declared.answer.Answer.{Answer}
 use Rattle.call.specs.declared.call.Call.{Call}
 use Rattle.call.specs.declared.refusal.Refusal.{Refusal}
@@ -8,7 +8,7 @@ use Rattle.races.specs.Remembered.{Remembers}
 use Rattle.rules.specs.State.{Accessed, Lock, Memory, State}
 use Rattle.rules.specs.Steps.{Operations, outcome}
 use Rattle.word.specs.declared.word.Word.{Word}
-use Rattle.board.specs.Obeying.{Checks, Left, Obeys, Performs, refused_by}
+use Rattle.board.specs.Obeying.{Checks, Left, Obeys, Performs}
 use Rattle.board.specs.Views.{setting_of, view}
 use Rattle.board.specs.declared.board.Board.{Board}
 

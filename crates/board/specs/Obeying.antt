@@ -1,5 +1,5 @@
 -- What each call promises: its answer and all that it leaves are those of the rules. Assumes nothing.
-use Rattle.std.specs.Prelude.{◌≡◌, ℕ, Bool, List, Some, None, Ok, Err, Option, Result}
+use Rattle.std.specs.Prelude.{◌≡◌, ℕ, List, Some, None, Ok, Err, Option, Result}
 use Rattle.call.specs.Calls.{caller_of, kind_of}
 use Rattle.call.specs.declared.answer.Answer.{Answer}
 use Rattle.call.specs.declared.answer.Answer.TheVariants.{Loaded, Stored, Done}

@@ -1,6 +1,6 @@
 -- A whole run as a call promises it: the answer table, the board and its signature by the rules, and the laws of runs.
 -- Assumes nothing.
-use Rattle.std.specs.Prelude.{◌≡◌, ℕ, ◌+◌, List, [], ◌∷◌, ◌++◌, map, length, take, drop, Result}
+use Rattle.std.specs.Prelude.{◌≡◌, List, [], ◌∷◌, ◌++◌, map, length, take, drop, Result}
 use Rattle.call.specs.Figures.{Five}
 use Rattle.call.specs.declared.answer.Answer.{Answer}
 use Rattle.call.specs.declared.answer.AnswerRecord.{AnswerRecord}

@@ -123,7 +123,14 @@ mod tests {
         };
         let race = Refusal::Race(0, Access::Store);
         assert!(rt; prints(8, Kind::Phase, Ok(Answer::Done(0)), b"8 P 0 0 0 0\n"));
-        assert!(rt; prints(0, Kind::Store, Ok(Answer::Stored(1, first)), b"0 S 0 1 0 1\n"));
+        assert!(rt;
+            prints(
+                0,
+                Kind::Store,
+                Ok(Answer::Stored(1, first)),
+                b"0 S 0 1 0 1\n"
+            )
+        );
         assert!(rt; prints(1, Kind::Load, Err(race), b"1 L 6 0 1 0\n"));
         assert!(rt; prints(1, Kind::Load, Ok(Answer::Loaded(held, 2)), b"1 L 0 2 7 2\n"));
         Ok(())
@@ -147,7 +154,14 @@ mod tests {
                 b"255 L 0 255 4294967295 8340032\n",
             )
         );
-        assert!(rt; prints(8, Kind::Settle, Ok(Answer::Done(65_535)), b"8 T 0 65535 0 0\n"));
+        assert!(rt;
+            prints(
+                8,
+                Kind::Settle,
+                Ok(Answer::Done(65_535)),
+                b"8 T 0 65535 0 0\n"
+            )
+        );
         assert!(rt; prints(10, Kind::Evict, Ok(Answer::Done(100)), b"10 E 0 100 0 0\n"));
         Ok(())
     }

@@ -5,10 +5,10 @@ ghost use Rattle.std.specs.Prelude.{◌≡◌, ◌≤◌, length, IfSome};
 ghost use Rattle.play.specs.Playing.{verdict, PlaysJob};
 ghost use Rattle.transcript.specs.Transcripts.{text_of, fields_of, outcome_text, outcome_fields, transcript, PlaysFresh, Within, Written};
 
+use board::Run;
 use call::AnswerRecord;
 use lines::{write_fault_line, write_lines};
 use page::{Bank, PageStore, Table};
-use board::Run;
 use play::{RefusedJob, play_job};
 use signature::{Bloom, Signature};
 

@@ -1,4 +1,4 @@
-use Rattle.std.proofs.Common.{length, take, subst, arith}
+use Rattle.std.proofs.Common.{take, subst, arith}
 use Rattle.std.proofs.lemmas.List.{take_all, length-take-le}
 use Rattle.board.specs.Runs.{Plays}
 use Rattle.board.proofs.Whole.{plays_none, plays_next}
