@@ -34,8 +34,8 @@ pub fn play<P: PageStore>(
     ensures after { P.words store.new ≡ list_after_all (P.words store.old) (take result accesses.now) }
 {
     let number = accesses.len().min(replies.len());
-    for i in 0..number {
-        replies[i] = serve(store, accesses[i]);
+    for (i, access) in accesses[..number].iter().enumerate() {
+        replies[i] = serve(store, *access);
     }
     number
 }
