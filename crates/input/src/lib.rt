@@ -17,6 +17,7 @@ pub fn read_job<R: Read + Drop>(heap: Global, input: R) -> io::Result<Vec<u8>>
 {
     let mut job = Vec::new(heap);
     input.take(LONGEST as u64).read_to_end(&mut job)?;
+    // No clause says of every reader that `take` holds it to the limit: here it is said of what was read.
     job.truncate(LONGEST);
     Ok(job)
 }

@@ -3,7 +3,7 @@ ghost use Rattle.std.specs.Prelude.{◌≡◌, ◌/◌, ◌%◌, ◌<◌, true, 
 ghost use Rattle.std.specs.Option.{option_map};
 
 /// A number below a limit.
-#[derive(Clone, Copy)]
+#[derive(Clone, Copy, PartialEq, Eq, Debug)]
 pub struct Below<const LIMIT: u16> {
     pub(crate) number: u16,
     ghost within: { nat_lt number LIMIT ≡ true },

@@ -7,7 +7,7 @@ use crate::bounds::Place;
 use word::Word;
 
 /// Whether an entry holds a copy: none, one that may be read, or the one that counts, whose core owns the word.
-#[derive(Clone, Copy)]
+#[derive(Clone, Copy, PartialEq, Eq, Debug)]
 pub enum State {
     Invalid,
     Valid,
@@ -109,7 +109,7 @@ impl Entry {
     pub(crate) fn state_for(&self, word: Place) -> State
         ensures { result ≡ (if nat_eq self.now.place.number word.number then self.now.state else Invalid) }
     {
-        if self.place.number == word.number {
+        if self.place == word {
             self.state
         } else {
             State::Invalid

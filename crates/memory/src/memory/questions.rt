@@ -46,7 +46,7 @@ impl<P: PageStore> Memory<P> {
     {
         let place = Place::new(word)?;
         let owner = self.owner_at(place)?;
-        Some(owner.number as u8)
+        Some(owner.into())
     }
 
     /// The page's word at a place, whoever owns it; past the page's end a blank word.

@@ -14,4 +14,5 @@ returns-in_err-owner g c =
 
 pub returns : goal.returns
 returns g c =
-    owner_there c.args.self.now.owners _ c.args.word _ _ _ c.new.ensures c.in_ok-place.was c.owner_at.ensures c.in_ok-owner.was
+    rw c.into.ensures
+    (owner_there c.args.self.now.owners _ c.args.word _ _ _ c.new.ensures c.in_ok-place.was c.owner_at.ensures c.in_ok-owner.was)
