@@ -13,10 +13,10 @@ use Rattle.rules.specs.Tables.{first, when, some_of}
 
 pub first_none : {X : Type 0} (r : Option X) (rs : List (Option X)) → first (r ∷ rs) ≡ None → (r ≡ None) × (first rs ≡ None)
 first_none None rs e = (refl, e)
-first_none (Some x) rs e = let z : ◌≡◌ {A = ℕ} 0 1 = cc in let no_way : ⊥ = omega arith in absurd no_way
+first_none (Some x) rs e = absurd cc
 
 pub when_none : {X : Type 0} (t : Bool) (x : X) → when t x ≡ None → t ≡ false
-when_none true x e = let z : ◌≡◌ {A = ℕ} 0 1 = cc in let no_way : ⊥ = omega arith in absurd no_way
+when_none true x e = absurd cc
 when_none false x e = refl
 
 -- ── a test on some member ──
@@ -68,7 +68,7 @@ stored_after accesses core word d w e =
 
 pub no_race : (access : Access) (o : Option ℕ) → as_race access o ≡ None → o ≡ None
 no_race access None e = refl
-no_race access (Some c) e = let z : ◌≡◌ {A = ℕ} 0 1 = cc in let no_way : ⊥ = omega arith in absurd no_way
+no_race access (Some c) e = absurd cc
 
 -- where no other core's store is found, each store is the core's own
 pub only_own : (accesses : List Accessed) (core word d : ℕ) → earliest Store core word accesses ≡ None → stored_in accesses d word ≡ true → d ≡ core
@@ -86,5 +86,5 @@ only_own (a ∷ more) core word d none e =
         (cases_Bool (eqb a.core core))
 
     go : (t : Bool) → by_another Store core word a ≡ t → cond t (Some a.core) (earliest Store core word more) ≡ None → (earliest Store core word more ≡ None → stored_in more d word ≡ true → d ≡ core) → d ≡ core
-    go true h k later = let z : ◌≡◌ {A = ℕ} 0 1 = cc in let no_way : ⊥ = omega arith in absurd no_way
+    go true h k later = absurd cc
     go false h k later = ⊎_elim (λ p. here h p) (λ p. later k p) (or_cases (store_by d word a) (stored_in more d word) e)

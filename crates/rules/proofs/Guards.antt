@@ -64,7 +64,7 @@ acquired_guarded None lock core g h e below ok ch = go lock.last refl ch
     go : (o : Option ℕ) → lock.last ≡ o → Changes (takes_from o core) g h → Grow g h × ((w : ℕ) → Guarded lock g w → Guarded (acquired_by None lock core) h w)
     go None l same = (
       same_grows g h same,
-      λ w p. let none : ◌≡◌ {A = Option ℕ} None (Some p.core) = sym (ap (λ (k : Option ℕ). guard_by k lock.last) e ∙ l) ∙ p.guards in let z : ◌≡◌ {A = ℕ} 0 1 = cc in let no_way : ⊥ = omega arith in absurd no_way,
+      λ w p. let none : ◌≡◌ {A = Option ℕ} None (Some p.core) = sym (ap (λ (k : Option ℕ). guard_by k lock.last) e ∙ l) ∙ p.guards in absurd cc,
     )
     go (Some d) l (k, t, same) = (
       grow_on g k h (take_in_grows g k core d t) (same_grows k h same),

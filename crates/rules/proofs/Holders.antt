@@ -12,9 +12,9 @@ use Rattle.rules.proofs.Turns.{Legal, turn, line}
 -- ── a list that begins with another ──
 
 pub take_past : (xs : List ℕ) (c : ℕ) (ys : List ℕ) (n : ℕ) → length xs + 1 ≤ n → take n (xs ++ (c ∷ ys)) ≡ xs ++ (c ∷ take (n - (length xs + 1)) ys)
-take_past [] c ys zero l = let no_way : ⊥ = omega arith in absurd no_way
+take_past [] c ys zero l = absurd (omega arith)
 take_past [] c ys (suc n) l = let k : n ≡ suc n - 1 = omega arith in ap (λ (m : ℕ). c ∷ take m ys) k
-take_past (x ∷ xs) c ys zero l = let no_way : ⊥ = omega arith in absurd no_way
+take_past (x ∷ xs) c ys zero l = absurd (omega arith)
 take_past (x ∷ xs) c ys (suc n) l =
     let k : n - (length xs + 1) ≡ suc n - (suc (length xs) + 1) = omega arith in
     ap (λ (r : List ℕ). x ∷ r) (take_past xs c ys n (omega arith) ∙ ap (λ (m : ℕ). xs ++ (c ∷ take m ys)) k)
@@ -39,9 +39,9 @@ pub same_beginning : (c : ℕ) (xs ys us vs : List ℕ) → xs ++ (c ∷ us) ≡
 same_beginning c xs ys us vs e n = go (two_splits xs c us ys c vs e)
   where
     go : Placed xs c ys c → xs ≡ ys
-    go (earlier m p) = let less : times c xs < times c ys = rw p (times_here c xs m) in let no_way : ⊥ = omega arith in absurd no_way
+    go (earlier m p) = let less : times c xs < times c ys = rw p (times_here c xs m) in absurd (omega arith)
     go (same p q) = p
-    go (later m p) = let less : times c ys < times c xs = rw p (times_here c ys m) in let no_way : ⊥ = omega arith in absurd no_way
+    go (later m p) = let less : times c ys < times c xs = rw p (times_here c ys m) in absurd (omega arith)
 
 -- ── the order of holders begins with the releasers and the holder ──
 

@@ -248,7 +248,7 @@ module _ (b : Setting) (fits : Fits b) (now : ℕ → Word) (s : State) (g g' : 
       cores_after : (q : List ℕ) → (l.locks lock).queue ≡ q → Cores (released_to q core)
       cores_after [] e =
           record {
-            holder = λ c h. let z : ◌≡◌ {A = ℕ} 0 1 = cc in omega arith;
+            holder = λ c h. absurd cc;
             queue = λ c h. absurd h;
             last = λ c h. let few = fits.cores in let who : core ≡ c = cc in omega (arith, in_cores);
           }
@@ -270,7 +270,7 @@ module _ (b : Setting) (fits : Fits b) (now : ℕ → Word) (s : State) (g g' : 
             record {
               still = λ w d m e. both_ways false refl e;
               covered = λ w d lock m e. absurd (both_ways false refl e);
-              cores = λ lock. record { holder = (good.phased.cores lock).holder; queue = (good.phased.cores lock).queue; last = λ c h. let z : ◌≡◌ {A = ℕ} 0 1 = cc in omega arith };
+              cores = λ lock. record { holder = (good.phased.cores lock).holder; queue = (good.phased.cores lock).queue; last = λ c h. absurd cc };
             };
         long = rw k.long good.long;
       }

@@ -116,7 +116,7 @@ access_concerns call.Settle a e = grind arith
 
 both_empty : {X : Type 0} (xs ys : List X) → xs ++ ys ≡ [] → (xs ≡ []) × (ys ≡ [])
 both_empty [] ys e = (refl, e)
-both_empty (x ∷ xs) ys e = let z : ◌≡◌ {A = ℕ} 0 1 = cc in let no_way : ⊥ = omega arith in absurd no_way
+both_empty (x ∷ xs) ys e = absurd cc
 
 stays_stored : (d w : ℕ) (l : Ledger) (h : History) → plans_of h ≡ [] → stored_in l.accesses d w ≡ true → stored_in (fold entered_by l h).accesses d w ≡ true
 stays_stored d w l [] none st = st
@@ -130,9 +130,7 @@ stays_stored d w l (e ∷ h) none st = stays_stored d w (entered_by l e) h (both
     entered_stays (call.Release core lock) q = st
     entered_stays (call.Phase plan) q =
         let empty : plan ∷ [] ≡ [] = ap (λ (k : Call). plans_in (plan_of k)) (sym q) ∙ (both_empty (plans_in (plan_of e.call)) (plans_of h) none).0 in
-        let z : ◌≡◌ {A = ℕ} 0 1 = cc in
-        let no_way : ⊥ = omega arith in
-        absurd no_way
+        absurd cc
     entered_stays call.Settle q = st
 
     go : (t : Bool) → stored_in (cond t (entered l e.call) l).accesses d w ≡ true

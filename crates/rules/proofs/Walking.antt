@@ -110,7 +110,7 @@ module _ (b : Setting) (fits : Fits b) (old : ℕ → Word) where
 
         counts_kept : (c : Call) → store_of c ≡ None → (k : ℕ) → l.counts k ≡ (entered l c).counts k
         counts_kept (call.Load core word) p k = refl
-        counts_kept (call.Store core word value) p k = let z : ◌≡◌ {A = ℕ} 0 1 = cc in let no_way : ⊥ = omega arith in absurd no_way
+        counts_kept (call.Store core word value) p k = absurd cc
         counts_kept (call.Evict core word) p k = refl
         counts_kept (call.Acquire core lock) p k = refl
         counts_kept (call.Release core lock) p k = refl
