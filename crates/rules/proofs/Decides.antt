@@ -1,6 +1,8 @@
 -- The order law: the last store before a load is carried over to the other run and back, so both loads give what the same
 -- store wrote; its count agrees since the core's own calls do. Assumes nothing.
 use Rattle.std.proofs.Common.{◌≡◌, ℕ, ◌+◌, ◌<◌, Bool, true, false, cond, eqb, List, [], ◌∷◌, ◌++◌, Some, None, Option, sym, refl, ap, ◌∙◌, subst, ⊎_elim, append_assoc, arith}
+use Rattle.std.proofs.lemmas.List.Sums.{fold-append}
+use Rattle.std.proofs.lemmas.List.Concat.{flat_map-append}
 use Rattle.std.proofs.lemmas.List.{append_cancel_left}
 use Rattle.std.proofs.lemmas.Bool.{eqb-true, both_ways, cases_Bool, cond-true, eq-eqb}
 use Rattle.call.specs.declared.call.Call.{Call}
@@ -14,12 +16,12 @@ use Rattle.rules.specs.Runs.{Event, History, Ran}
 use Rattle.rules.specs.State.{Setting, setting}
 use Rattle.rules.specs.Steps.{step, outcome}
 use Rattle.rules.specs.Tables.{some_of}
-use Rattle.rules.proofs.Equal.{folded_append, fresh_same, later}
+use Rattle.rules.proofs.Equal.{fresh_same, later}
 use Rattle.rules.proofs.Fresh.{reached, no_stale, loaded_tells}
 use Rattle.rules.proofs.Order.{access_of, access_below, store_accesses, access_concerns, Twins, before_ok, keeps_order}
 use Rattle.rules.proofs.Own.{found, own_stores, stores_own}
 use Rattle.rules.proofs.Settled.{fresh_alike}
-use Rattle.rules.proofs.Splits.{Spot, Last, last_of, none_at, joined_append, tail_same}
+use Rattle.rules.proofs.Splits.{Spot, Last, last_of, none_at, tail_same}
 use Rattle.rules.proofs.Turns.{legal}
 use Rattle.rules.proofs.Unrefused.{load_passes}
 use Rattle.rules.proofs.Opening.{fits}
@@ -50,7 +52,7 @@ pub twin : (r q : Ran) → SameOrder r q → (c : ℕ) → c < 8 → (s : Spot r
 twin r q o c below s t =
     let mine = calls_of c s.before in
     let here : calls_of c (s.event ∷ s.after) ≡ s.event.call ∷ calls_of c s.after = ap (λ (b : Bool). cond b (s.event.call ∷ []) [] ++ calls_of c s.after) t in
-    let whole : calls_of c q.history ≡ mine ++ (s.event.call ∷ calls_of c s.after) = sym (o.calls c below) ∙ (ap (calls_of c) s.stands ∙ (joined_append _ s.before (s.event ∷ s.after) ∙ ap (λ (k : List Call). mine ++ k) here)) in
+    let whole : calls_of c q.history ≡ mine ++ (s.event.call ∷ calls_of c s.after) = sym (o.calls c below) ∙ (ap (calls_of c) s.stands ∙ (flat_map-append _ s.before (s.event ∷ s.after) ∙ ap (λ (k : List Call). mine ++ k) here)) in
     let f = found c q.history mine s.event.call (calls_of c s.after) whole in
     (f.spot, record { place = sym f.place; call = sym f.call })
 
@@ -89,7 +91,7 @@ last_at : (w : ℕ) (a : History) (e : Event) (m : History) (s : Written) → re
 last_at w a e m s ok c h none =
     let moved : track_by w (stored e) (tracked w a) ≡ track_by w (Some s) (tracked w a) = ap (λ (o : Option Written). track_by w o (tracked w a)) (of_unrefused store_of e ok ∙ c) in
     let there : (track_by w (stored e) (tracked w a)).last ≡ told_as s ((tracked w a).counts s.core + 1) = ap (λ (t : Tracked). t.last) moved ∙ cond-true (eqb s.word w) _ _ (eq-eqb s.word w h) in
-    ap (λ (t : Tracked). t.last) (folded_append _ _ a (e ∷ m))
+    ap (λ (t : Tracked). t.last) (fold-append _ _ a (e ∷ m))
     ∙ (⊎_elim (λ p. p.1) (λ p. absurd (both_ways (some_of (stores_to w) m) none p.0)) (later w (track_by w (stored e) (tracked w a)) m) ∙ there)
 
 last_none : (w : ℕ) (h : History) → some_of (stores_to w) h ≡ false → last_store w h ≡ None

@@ -2,6 +2,7 @@
 -- between. The first two are read off the moment before the call. For the third, marks of different stores differ: of two
 -- stores of one core the later has the greater count. Assumes nothing.
 use Rattle.std.proofs.Common.{◌≡◌, ℕ, ◌<◌, [], ◌∷◌, ◌++◌, Some, None, Option, sym, refl, ap, ◌∙◌, subst, arith, Ok, Err, Result}
+use Rattle.std.proofs.lemmas.Option.{same_Some}
 use Rattle.call.specs.declared.answer.Answer.{Answer}
 use Rattle.call.specs.declared.answer.Answer.TheVariants.{Loaded, Stored, Done}
 use Rattle.call.specs.declared.call.Call.{Call}
@@ -19,7 +20,7 @@ use Rattle.rules.specs.Steps.{step, outcome, again}
 use Rattle.rules.proofs.Invariant.{Fits, load_is_fresh}
 use Rattle.rules.proofs.Opening.{fits, opening_moment}
 use Rattle.rules.proofs.Unrefused.{load_passes}
-use Rattle.rules.proofs.Walking.{Moment, Reached, walk, same_some}
+use Rattle.rules.proofs.Walking.{Moment, Reached, walk}
 
 -- the moment before an event of a run
 pub reached : (r : Ran) (before rest : History) → r.history ≡ before ++ rest → Reached (setting r.figures r.page) (fits r.figures r.page r.passed) (old_word r) before rest r.final
@@ -44,7 +45,7 @@ refusals_told r before e after split =
 
 load_of_tells : (c : Call) (w : Wanted) → load_of c ≡ Some w → c ≡ call.Load w.core w.word
 load_of_tells (call.Load core word) w e =
-    let same = same_some _ w e in
+    let same = same_Some _ w e in
     λ i. call.Load (same i).core (same i).word
 load_of_tells (call.Store core word value) w e = grind arith
 load_of_tells (call.Evict core word) w e = grind arith
@@ -65,7 +66,7 @@ loaded_tells e l h = go e.answer (load_of e.call) refl refl h
     go : (a : Result Answer Refusal) (o : Option Wanted) → e.answer ≡ a → load_of e.call ≡ o → given_by a o ≡ Some l → LoadEvent e l
     go (Ok (Loaded x source)) None p q r = grind arith
     go (Ok (Loaded x source)) (Some w) p q r =
-        let same = same_some _ l r in
+        let same = same_Some _ l r in
         record { source = source; call = load_of_tells e.call w q ∙ (λ i. call.Load (same i).core (same i).word); answer = p ∙ (λ i. Ok (Loaded (same i).given source)) }
     go (Ok (Stored answer mark)) None p q r = grind arith
     go (Ok (Stored answer mark)) (Some w) p q r = grind arith

@@ -2,11 +2,12 @@
 -- cores have released the lock before. Both runs' orders begin with the releasers so far and then the core, and the core
 -- stands equally often among the releasers, since its releases are among its own calls. Assumes nothing.
 use Rattle.std.proofs.Common.{◌≡◌, ℕ, zero, suc, ◌+◌, ◌-◌, ◌<◌, ◌≤◌, cond, eqb, List, [], ◌∷◌, ◌++◌, length, take, Some, None, Option, refl, ap, ◌∙◌, append_assoc, arith, length-append}
+use Rattle.std.proofs.lemmas.List.Concat.{flat_map-append}
 use Rattle.std.proofs.lemmas.Bool.{cond-true, eq-eqb}
 use Rattle.rules.specs.Histories.{acquirers, releasers, order_of_holders, ledger_of}
 use Rattle.rules.specs.Runs.{History}
 use Rattle.rules.specs.State.{Setting}
-use Rattle.rules.proofs.Splits.{Placed, earlier, same, later, two_splits, joined_append}
+use Rattle.rules.proofs.Splits.{Placed, earlier, same, later, two_splits}
 use Rattle.rules.proofs.Turns.{Legal, turn, line}
 
 -- ── a list that begins with another ──
@@ -50,6 +51,6 @@ holders_begin b h ok lock core first rest split holds =
     let t = turn b h ok lock first rest split in
     let queue = ((ledger_of first).locks lock).queue in
     let got : acquirers lock first ≡ releasers lock first ++ (core ∷ queue) = t.turns ∙ ap (λ (o : Option ℕ). releasers lock first ++ line (record { holder = o; queue = queue; last = None })) holds in
-    let whole : acquirers lock h ≡ releasers lock first ++ (core ∷ (queue ++ acquirers lock rest)) = ap (acquirers lock) split ∙ (joined_append _ first rest ∙ (ap (λ (k : List ℕ). k ++ acquirers lock rest) got ∙ append_assoc (releasers lock first) (core ∷ queue) (acquirers lock rest))) in
-    let count : length (releasers lock h) ≡ length (releasers lock first) + length (releasers lock rest) = ap (λ (k : History). length (releasers lock k)) split ∙ (ap length (joined_append _ first rest) ∙ length-append (releasers lock first) (releasers lock rest)) in
+    let whole : acquirers lock h ≡ releasers lock first ++ (core ∷ (queue ++ acquirers lock rest)) = ap (acquirers lock) split ∙ (flat_map-append _ first rest ∙ (ap (λ (k : List ℕ). k ++ acquirers lock rest) got ∙ append_assoc (releasers lock first) (core ∷ queue) (acquirers lock rest))) in
+    let count : length (releasers lock h) ≡ length (releasers lock first) + length (releasers lock rest) = ap (λ (k : History). length (releasers lock k)) split ∙ (ap length (flat_map-append _ first rest) ∙ length-append (releasers lock first) (releasers lock rest)) in
     (_, ap (take (length (releasers lock h) + 1)) whole ∙ take_past (releasers lock first) core (queue ++ acquirers lock rest) (length (releasers lock h) + 1) (omega arith))

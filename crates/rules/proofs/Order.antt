@@ -3,6 +3,9 @@
 -- where a read_only strip refuses the store, in a written strip the first run shows a race, and in a locked strip the same
 -- cores have released the lock before both, so that both are by the one holder. Assumes nothing.
 use Rattle.std.proofs.Common.{◌≡◌, ℕ, ◌+◌, ◌-◌, ◌/◌, ◌^◌, ◌<◌, ◌≤◌, Bool, true, false, cond, not, eqb, leb, List, [], ◌∷◌, ◌++◌, length, is_some, Some, None, fold, Option, sym, refl, ap, ◌∙◌, subst, ⊎_elim, append_assoc, mod-lt, arith, lit<, length-append}
+use Rattle.std.proofs.lemmas.List.Sums.{fold-append}
+use Rattle.std.proofs.lemmas.List.Concat.{flat_map-append}
+use Rattle.std.proofs.lemmas.Option.{same_Some}
 use Rattle.std.proofs.lemmas.List.{append-nil, append_cancel_left, nil_from_length}
 use Rattle.std.proofs.lemmas.Bool.{eq-eqb, cases_eq, both_ways, cond-true}
 use Rattle.call.specs.Figures.{Five, strip_of}
@@ -18,14 +21,12 @@ use Rattle.rules.specs.Runs.{Event, History, Ran}
 use Rattle.rules.specs.State.{Ledger, Setting, setting}
 use Rattle.rules.specs.Steps.{entered}
 use Rattle.rules.proofs.Accesses.{first_none, no_race, only_own, stored_in, stored_after_load, stored_before, stored_now}
-use Rattle.rules.proofs.Equal.{folded_append}
 use Rattle.rules.proofs.Holders.{same_beginning, holders_begin}
 use Rattle.rules.proofs.Invariant.{not_shut_out}
 use Rattle.rules.proofs.Own.{AllAccepted, all_accepted, accepted_front, own_releases, releases_own, plans, plans_in, plans_of, plans_own, last_plan, plan_told}
-use Rattle.rules.proofs.Splits.{Spot, Placed, earlier, same, later, two_splits, joined_append}
+use Rattle.rules.proofs.Splits.{Spot, Placed, earlier, same, later, two_splits}
 use Rattle.rules.proofs.Turns.{Legal, legal, turn, line}
 use Rattle.rules.proofs.Unrefused.{load_passes, store_passes}
-use Rattle.rules.proofs.Walking.{same_some}
 
 -- ── accesses ──
 
@@ -147,7 +148,7 @@ pub record Twins (c : ℕ) {h k : History} (s : Spot h) (t : Spot k) : Type 0 wh
 -- one of the core's calls more makes its calls longer
 longer : (c : ℕ) (a : History) (e : Event) (m : History) → concerns c e.call ≡ true → length (calls_of c a) < length (calls_of c (a ++ (e ∷ m)))
 longer c a e m t =
-    let whole = ap length (joined_append _ a (e ∷ m)) ∙ length-append (calls_of c a) (calls_of c (e ∷ m)) in
+    let whole = ap length (flat_map-append _ a (e ∷ m)) ∙ length-append (calls_of c a) (calls_of c (e ∷ m)) in
     let here : length (calls_of c (e ∷ m)) ≡ 1 + length (calls_of c m) = ap (λ (b : Bool). length (cond b (e.call ∷ []) [] ++ calls_of c m)) t ∙ omega arith in
     omega arith
 
@@ -216,8 +217,8 @@ module _ (r q : Ran) (order : SameOrder r q) (S T : Spot r.history) (S' T' : Spo
 
     no_plans : plans_of (S.event ∷ M) ≡ []
     no_plans =
-        let there = ap length (ap plans_of late ∙ joined_append _ T'.before (T'.event ∷ M')) ∙ length-append (plans_of T'.before) (plans_of (T'.event ∷ M')) in
-        let here = ap plans_of first ∙ joined_append _ S.before (S.event ∷ M) in
+        let there = ap length (ap plans_of late ∙ flat_map-append _ T'.before (T'.event ∷ M')) ∙ length-append (plans_of T'.before) (plans_of (T'.event ∷ M')) in
+        let here = ap plans_of first ∙ flat_map-append _ S.before (S.event ∷ M) in
         let s_len = ap length s_plans in
         let t_len = ap length t_plans in
         let h_len = ap length here in
@@ -225,7 +226,7 @@ module _ (r q : Ran) (order : SameOrder r q) (S T : Spot r.history) (S' T' : Spo
 
     one_plans : plans_of T.before ≡ plans_of S.before
     one_plans =
-        ap plans_of first ∙ (joined_append _ S.before (S.event ∷ M) ∙ (ap (λ (k : List ℕ). plans_of S.before ++ k) no_plans ∙ append-nil (plans_of S.before)))
+        ap plans_of first ∙ (flat_map-append _ S.before (S.event ∷ M) ∙ (ap (λ (k : List ℕ). plans_of S.before ++ k) no_plans ∙ append-nil (plans_of S.before)))
 
     -- the plan in force at the four moments
     abbrev plan : ℕ
@@ -299,7 +300,7 @@ module _ (r q : Ran) (order : SameOrder r q) (S T : Spot r.history) (S' T' : Spo
         among : stored_in (ledger_of T.before).accesses s.core a.word ≡ true
         among =
             ap (λ (h : History). stored_in (ledger_of h).accesses s.core a.word) first
-            ∙ (ap (λ (l : Ledger). stored_in l.accesses s.core a.word) (folded_append entered_by _ S.before (S.event ∷ M))
+            ∙ (ap (λ (l : Ledger). stored_in l.accesses s.core a.word) (fold-append entered_by _ S.before (S.event ∷ M))
             ∙ stays_stored s.core a.word (entered_by (ledger_of S.before) S.event) M (both_empty (plans_in (plan_of S.event.call)) (plans_of M) no_plans).1 in_s)
 
     -- in a locked strip both accesses would be by the one holder
@@ -323,15 +324,15 @@ module _ (r q : Ran) (order : SameOrder r q) (S T : Spot r.history) (S' T' : Spo
 
         none_between : releasers lock (S.event ∷ M) ≡ []
         none_between =
-            let there = ap length (ap (releasers lock) late ∙ joined_append _ T'.before (T'.event ∷ M')) ∙ length-append (releasers lock T'.before) (releasers lock (T'.event ∷ M')) in
-            let here = ap length (ap (releasers lock) first ∙ joined_append _ S.before (S.event ∷ M)) in
+            let there = ap length (ap (releasers lock) late ∙ flat_map-append _ T'.before (T'.event ∷ M')) ∙ length-append (releasers lock T'.before) (releasers lock (T'.event ∷ M')) in
+            let here = ap length (ap (releasers lock) first ∙ flat_map-append _ S.before (S.event ∷ M)) in
             let s_len = ap length s_releasers in
             let t_len = ap length t_releasers in
             no_more (releasers lock S.before) (releasers lock (S.event ∷ M)) (omega arith)
 
         one_releasers : releasers lock T.before ≡ releasers lock S.before
         one_releasers =
-            ap (releasers lock) first ∙ (joined_append _ S.before (S.event ∷ M) ∙ (ap (λ (k : List ℕ). releasers lock S.before ++ k) none_between ∙ append-nil (releasers lock S.before)))
+            ap (releasers lock) first ∙ (flat_map-append _ S.before (S.event ∷ M) ∙ (ap (λ (k : List ℕ). releasers lock S.before ++ k) none_between ∙ append-nil (releasers lock S.before)))
 
         one_holder : s.core ≡ a.core
         one_holder =
@@ -341,7 +342,7 @@ module _ (r q : Ran) (order : SameOrder r q) (S T : Spot r.history) (S' T' : Spo
             let queue_t = ((ledger_of T.before).locks lock).queue in
             let got_s : acquirers lock S.before ≡ releasers lock S.before ++ (s.core ∷ queue_s) = turn_s.turns ∙ ap (λ (o : Option ℕ). releasers lock S.before ++ line (record { holder = o; queue = queue_s; last = None })) holds_s in
             let got_t : acquirers lock T.before ≡ releasers lock T.before ++ (a.core ∷ queue_t) = turn_t.turns ∙ ap (λ (o : Option ℕ). releasers lock T.before ++ line (record { holder = o; queue = queue_t; last = None })) holds_t in
-            let from_s : acquirers lock T.before ≡ releasers lock S.before ++ (s.core ∷ (queue_s ++ acquirers lock (S.event ∷ M))) = ap (acquirers lock) first ∙ (joined_append _ S.before (S.event ∷ M) ∙ (ap (λ (k : List ℕ). k ++ acquirers lock (S.event ∷ M)) got_s ∙ append_assoc (releasers lock S.before) (s.core ∷ queue_s) (acquirers lock (S.event ∷ M)))) in
+            let from_s : acquirers lock T.before ≡ releasers lock S.before ++ (s.core ∷ (queue_s ++ acquirers lock (S.event ∷ M))) = ap (acquirers lock) first ∙ (flat_map-append _ S.before (S.event ∷ M) ∙ (ap (λ (k : List ℕ). k ++ acquirers lock (S.event ∷ M)) got_s ∙ append_assoc (releasers lock S.before) (s.core ∷ queue_s) (acquirers lock (S.event ∷ M)))) in
             let from_t : acquirers lock T.before ≡ releasers lock S.before ++ (a.core ∷ queue_t) = got_t ∙ ap (λ (k : List ℕ). k ++ (a.core ∷ queue_t)) one_releasers in
             let tails = append_cancel_left (releasers lock S.before) (s.core ∷ (queue_s ++ acquirers lock (S.event ∷ M))) (a.core ∷ queue_t) (sym from_s ∙ from_t) in
             let eq : s.core ≡ a.core = cc in
@@ -362,7 +363,7 @@ module _ (r q : Ran) (order : SameOrder r q) (S T : Spot r.history) (S' T' : Spo
       go (earlier M' e) = (M', e)
       go (same e x) =
           let one_call : S.event.call ≡ T.event.call = twin_s.call ∙ (ap (λ (k : Event). k.call) x ∙ sym twin_t.call) in
-          let both = same_some (record { core = s.core; word = s.word }) a (sym (store_accesses S.event.call s stores) ∙ (ap access_of one_call ∙ uses)) in
+          let both = same_Some (record { core = s.core; word = s.word }) a (sym (store_accesses S.event.call s stores) ∙ (ap access_of one_call ∙ uses)) in
           let equal = ap (λ (h : History). length (calls_of a.core h)) e in
           absurd (not_one_core (ap (λ (k : Wanted). k.core) both) (omega arith))
       go (later M' e) =

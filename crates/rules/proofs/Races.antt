@@ -1,6 +1,7 @@
 -- The race that refusal 6 names, found in the history: the ledger's accesses are those of the events of this phase, in order,
 -- and the first of them that passes a test stands in the history. Assumes nothing.
 use Rattle.std.proofs.Common.{◌≡◌, ℕ, Bool, true, false, cond, not, ◌&&◌, ◌||◌, eqb, leb, List, [], ◌∷◌, ◌++◌, Some, None, Option, sym, refl, ap, ◌∙◌, subst, inl, inr, ⊎_elim, arith}
+use Rattle.std.proofs.lemmas.List.Sums.{fold_push}
 use Rattle.std.specs.List.{flat_map}
 use Rattle.std.proofs.lemmas.List.{append-nil}
 use Rattle.std.proofs.lemmas.Bool.{eqb-true, eqb-false, and_parts, cond-true, cond-false, not-true}
@@ -22,7 +23,6 @@ use Rattle.rules.proofs.Accesses.{some_of_append}
 use Rattle.rules.proofs.Fresh.{refusals_told}
 use Rattle.rules.proofs.Members.{In}
 use Rattle.rules.proofs.Splits.{along, joined_push}
-use Rattle.rules.proofs.Walking.{folded_push}
 
 -- ── this phase's accesses ──
 
@@ -62,8 +62,8 @@ accesses_told h = along h (λ k. (ledger_of k).accesses ≡ gathered (this_phase
   where
     keep : (before : History) (e : Event) (after : History) → h ≡ before ++ (e ∷ after) → (ledger_of before).accesses ≡ gathered (this_phase before) → (ledger_of (before ++ (e ∷ []))).accesses ≡ gathered (this_phase (before ++ (e ∷ [])))
     keep before e after split same =
-        ap (λ (l : Ledger). l.accesses) (folded_push entered_by _ before e)
-        ∙ (go (accepted e) refl ∙ ap gathered (sym (folded_push _ _ before e)))
+        ap (λ (l : Ledger). l.accesses) (fold_push entered_by _ before e)
+        ∙ (go (accepted e) refl ∙ ap gathered (sym (fold_push _ _ before e)))
       where
         go : (t : Bool) → accepted e ≡ t → (cond t (entered (ledger_of before) e.call) (ledger_of before)).accesses ≡ gathered (phase_by (begins e) (this_phase before) e)
         go true ok = entered_accesses (ledger_of before) e.call (this_phase before) e refl ok same

@@ -1,6 +1,7 @@
 -- Moments of a history as splits of it: two splits of one list, the last member that passes a test, a property along a
 -- history, and gatherings, which go through an append. Assumes nothing.
 use Rattle.std.proofs.Common.{◌≡◌, Bool, true, false, ◌||◌, List, [], ◌∷◌, ◌++◌, sym, refl, ap, ◌∙◌, subst, ⊎_elim, append_assoc, arith}
+use Rattle.std.proofs.lemmas.List.Concat.{flat_map-append}
 use Rattle.std.specs.List.{flat_map}
 use Rattle.std.proofs.lemmas.List.{append-nil}
 use Rattle.std.proofs.lemmas.Bool.{both_ways, cases_Bool}
@@ -85,9 +86,5 @@ along {X} h P start keep first rest split = go [] first split start
 
 -- ── gatherings ──
 
-pub joined_append : {X Y : Type 0} (f : X → List Y) (xs ys : List X) → flat_map f (xs ++ ys) ≡ flat_map f xs ++ flat_map f ys
-joined_append f [] ys = refl
-joined_append f (x ∷ xs) ys = ap (λ (k : List _). f x ++ k) (joined_append f xs ys) ∙ sym (append_assoc (f x) (flat_map f xs) (flat_map f ys))
-
 pub joined_push : {X Y : Type 0} (f : X → List Y) (xs : List X) (x : X) → flat_map f (xs ++ (x ∷ [])) ≡ flat_map f xs ++ f x
-joined_push f xs x = joined_append f xs (x ∷ []) ∙ ap (λ (k : List _). flat_map f xs ++ k) (append-nil (f x))
+joined_push f xs x = flat_map-append f xs (x ∷ []) ∙ ap (λ (k : List _). flat_map f xs ++ k) (append-nil (f x))

@@ -2,6 +2,7 @@
 -- since a release is by the holder and passes the lock to the head of the queue. So the order of holders begins with the
 -- releasers so far and then the holder. Assumes nothing.
 use Rattle.std.proofs.Common.{◌≡◌, ℕ, true, not, eqb, List, [], ◌∷◌, ◌++◌, is_some, Some, None, Option, sym, refl, ap, ◌∙◌, subst, ⊎_elim, append_assoc, arith}
+use Rattle.std.proofs.lemmas.List.Sums.{fold_push}
 use Rattle.std.proofs.lemmas.List.{append-nil}
 use Rattle.std.proofs.lemmas.Bool.{cond-true, cond-false, eq-eqb, ne_eqb}
 use Rattle.call.specs.declared.call.Call.{Call}
@@ -18,7 +19,7 @@ use Rattle.rules.proofs.Invariant.{holds_tells}
 use Rattle.rules.proofs.Splits.{along, joined_push}
 use Rattle.rules.proofs.Tables.{upd_cases}
 use Rattle.rules.proofs.Unrefused.{release_passes}
-use Rattle.rules.proofs.Walking.{folded_push, of_unrefused}
+use Rattle.rules.proofs.Walking.{of_unrefused}
 
 -- ── a run without a refusal ──
 
@@ -41,7 +42,7 @@ legal r ok =
 -- the ledger after an accepted event
 pub ledger_push : (before : History) (e : Event) → refused_with e.answer ≡ None → ledger_of (before ++ (e ∷ [])) ≡ entered (ledger_of before) e.call
 ledger_push before e a =
-    folded_push entered_by _ before e
+    fold_push entered_by _ before e
     ∙ cond-true (accepted e) (entered (ledger_of before) e.call) (ledger_of before) (ap (λ (o : Option Refusal). not (is_some o)) a)
 
 -- ── holder and queue ──

@@ -2,6 +2,8 @@
 -- invariant speaks of are the history's: the last store to each place, or the opening word. One walk from the opening to
 -- any moment serves all laws. Assumes nothing.
 use Rattle.std.proofs.Common.{◌≡◌, ℕ, ◌+◌, ◌<◌, ◌≤◌, Bool, true, false, cond, not, eqb, List, [], ◌∷◌, ◌++◌, is_some, Some, None, fold, Option, sym, refl, ap, ◌∙◌, subst, ⊎_elim, append_assoc, arith, Err, Result, Ok}
+use Rattle.std.proofs.lemmas.List.Sums.{fold_push}
+use Rattle.std.proofs.lemmas.Option.{same_Some}
 use Rattle.std.proofs.lemmas.List.{append-nil}
 use Rattle.std.proofs.lemmas.Bool.{eqb-true, eqb-false, cond-true}
 use Rattle.call.specs.declared.answer.Answer.{Answer}
@@ -23,14 +25,6 @@ use Rattle.rules.proofs.Guards.{guarded_grows, same_grows}
 use Rattle.rules.proofs.Invariant.{Fits, Good, now_after, after, accepted_good}
 use Rattle.rules.proofs.Tables.{upd_cases}
 use Rattle.rules.proofs.Unrefused.{store_passes}
-
--- a fold, one step on
-pub folded_push : {A B : Type 0} (f : B → A → B) (b : B) (xs : List A) (x : A) → fold f b (xs ++ (x ∷ [])) ≡ f (fold f b xs) x
-folded_push f b [] x = refl
-folded_push f b (y ∷ xs) x = folded_push f (f b y) xs x
-
-pub same_some : {X : Type 0} (x y : X) → Some x ≡ Some y → x ≡ y
-same_some x y e = cc
 
 -- what an event tells of its projections
 pub of_refused : {X : Type 0} (project : Call → Option X) (e : Event) (r : Refusal) → e.answer ≡ Err r → of_accepted project e ≡ None
@@ -79,7 +73,7 @@ module _ (b : Setting) (fits : Fits b) (old : ℕ → Word) where
               };
           told =
               record {
-                ledger = m.told.ledger ∙ sym (folded_push entered_by _ h e ∙ ap (λ (x : Result Answer Refusal). entered_by (ledger_of h) (record { call = e.call; answer = x })) a);
+                ledger = m.told.ledger ∙ sym (fold_push entered_by _ h e ∙ ap (λ (x : Result Answer Refusal). entered_by (ledger_of h) (record { call = e.call; answer = x })) a);
                 counts = λ w c. ap (λ (t : Tracked). t.counts c) (unmoved w) ∙ m.told.counts w c;
                 fresh = λ w p. subst (λ (t : Tracked). Fresh t.last (old w) (now w)) (sym (unmoved w)) (m.told.fresh w p);
                 lawful = λ w t p. m.told.lawful w t (ap (λ (k : Tracked). k.last) (sym (unmoved w)) ∙ p);
@@ -87,13 +81,13 @@ module _ (b : Setting) (fits : Fits b) (old : ℕ → Word) where
         }
       where
         unmoved : (w : ℕ) → tracked w (h ++ (e ∷ [])) ≡ tracked w h
-        unmoved w = folded_push _ _ h e ∙ ap (λ (o : Option Written). track_by w o (tracked w h)) (of_refused store_of e r a)
+        unmoved w = fold_push _ _ h e ∙ ap (λ (o : Option Written). track_by w o (tracked w h)) (of_refused store_of e r a)
 
     -- the ledger after an accepted call is the history's
     entered_told : refused_with e.answer ≡ None → entered l e.call ≡ ledger_of (h ++ (e ∷ []))
     entered_told a =
         ap (λ (k : Ledger). entered k e.call) m.told.ledger
-        ∙ sym (folded_push entered_by _ h e ∙ cond-true (accepted e) (entered (ledger_of h) e.call) (ledger_of h) (ap (λ (o : Option Refusal). not (is_some o)) a))
+        ∙ sym (fold_push entered_by _ h e ∙ cond-true (accepted e) (entered (ledger_of h) e.call) (ledger_of h) (ap (λ (o : Option Refusal). not (is_some o)) a))
 
     -- an accepted call that is no store moves no word
     plain_told : store_of e.call ≡ None → refused_with e.answer ≡ None → Told b old now (entered l e.call) (h ++ (e ∷ []))
@@ -106,7 +100,7 @@ module _ (b : Setting) (fits : Fits b) (old : ℕ → Word) where
         }
       where
         unmoved : (w : ℕ) → tracked w (h ++ (e ∷ [])) ≡ tracked w h
-        unmoved w = folded_push _ _ h e ∙ ap (λ (o : Option Written). track_by w o (tracked w h)) (of_unrefused store_of e a ∙ none)
+        unmoved w = fold_push _ _ h e ∙ ap (λ (o : Option Written). track_by w o (tracked w h)) (of_unrefused store_of e a ∙ none)
 
         counts_kept : (c : Call) → store_of c ≡ None → (k : ℕ) → l.counts k ≡ (entered l c).counts k
         counts_kept (call.Load core word) p k = refl
@@ -132,7 +126,7 @@ module _ (b : Setting) (fits : Fits b) (old : ℕ → Word) where
 
         moved : (w : ℕ) → tracked w (h ++ (e ∷ [])) ≡ track_by w (Some (record { core = core; word = word; value = value })) (tracked w h)
         moved w =
-            folded_push _ _ h e
+            fold_push _ _ h e
             ∙ ap (λ (o : Option Written). track_by w o (tracked w h)) (of_unrefused store_of e a ∙ ap store_of is_IsStore)
 
         counts_moved : (w c : ℕ) → upd (tracked w h).counts core ((tracked w h).counts core + 1) c ≡ upd l.counts core (l.counts core + 1) c
@@ -147,7 +141,7 @@ module _ (b : Setting) (fits : Fits b) (old : ℕ → Word) where
 
             go : (v : Bool) → cond v (Some (record { core = core; count = (tracked w h).counts core + 1; value = value })) (last_store w h) ≡ Some t → Stores t.core t.count × (t.count ≤ upd l.counts core (l.counts core + 1) t.core)
             go true q =
-                let same = same_some _ t q in
+                let same = same_Some _ t q in
                 let who : core ≡ t.core = ap (λ (k : ToldStore). k.core) same in
                 let many : (tracked w h).counts core + 1 ≡ t.count = ap (λ (k : ToldStore). k.count) same in
                 ((omega arith, omega arith, omega arith), grind (arith, upd_cases l.counts core (l.counts core + 1) t.core, who, many, alike))
