@@ -47,12 +47,7 @@ load_of_tells : (c : Call) (w : Wanted) → load_of c ≡ Some w → c ≡ call.
 load_of_tells (call.Load core word) w e =
     let same = same_Some _ w e in
     λ i. call.Load (same i).core (same i).word
-load_of_tells (call.Store core word value) w e = grind arith
-load_of_tells (call.Evict core word) w e = grind arith
-load_of_tells (call.Acquire core lock) w e = grind arith
-load_of_tells (call.Release core lock) w e = grind arith
-load_of_tells (call.Phase plan) w e = grind arith
-load_of_tells call.Settle w e = grind arith
+load_of_tells _ w e = grind arith
 
 -- what an accepted load tells of its event
 pub record LoadEvent (e : Event) (l : LoadGiven) : Type 0 where
@@ -64,16 +59,10 @@ pub loaded_tells : (e : Event) (l : LoadGiven) → loaded e ≡ Some l → LoadE
 loaded_tells e l h = go e.answer (load_of e.call) refl refl h
   where
     go : (a : Result Answer Refusal) (o : Option Wanted) → e.answer ≡ a → load_of e.call ≡ o → given_by a o ≡ Some l → LoadEvent e l
-    go (Ok (Loaded x source)) None p q r = grind arith
     go (Ok (Loaded x source)) (Some w) p q r =
         let same = same_Some _ l r in
         record { source = source; call = load_of_tells e.call w q ∙ (λ i. call.Load (same i).core (same i).word); answer = p ∙ (λ i. Ok (Loaded (same i).given source)) }
-    go (Ok (Stored answer mark)) None p q r = grind arith
-    go (Ok (Stored answer mark)) (Some w) p q r = grind arith
-    go (Ok (Done small)) None p q r = grind arith
-    go (Ok (Done small)) (Some w) p q r = grind arith
-    go (Err x) None p q r = grind arith
-    go (Err x) (Some w) p q r = grind arith
+    go _ _ p q r = grind arith
 
 -- a load that is not refused gives the word that the history says
 load_fresh : (b : Setting) (ok : Fits b) (old : ℕ → Word) (h : History) (s : State) (g : Sets) (m : Moment b ok old h s g) (core word : ℕ) (x : Word) (source : ℕ) → Ok (Loaded x source) ≡ (step b g s (call.Load core word)).answer → (word < b.size) × (x ≡ m.now word)

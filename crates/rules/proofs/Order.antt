@@ -34,11 +34,7 @@ use Rattle.rules.proofs.Unrefused.{load_passes, store_passes}
 abbrev pub access_of : Call → Option Wanted
 access_of (call.Load core word) = Some (record { core = core; word = word })
 access_of (call.Store core word value) = Some (record { core = core; word = word })
-access_of (call.Evict core word) = None
-access_of (call.Acquire core lock) = None
-access_of (call.Release core lock) = None
-access_of (call.Phase plan) = None
-access_of call.Settle = None
+access_of _ = None
 
 -- what an accepted access tells: in a locked strip the core holds the lock, in a written strip no other core has stored the word
 record Accesses (f : Five) (l : Ledger) (core word : ℕ) : Type 0 where
@@ -62,11 +58,7 @@ accesses b l (call.Store core word value) a e ok =
       by_holder = λ lock m. not_shut_out l (mode_of b.figures l.plan word) core lock m p.open_to;
       alone = λ m. no_race Store (earliest Store core word l.accesses) (first_none _ _ (ap (λ (x : Mode). store_race x l.accesses core word) (sym m) ∙ p.unraced)).0;
     }
-accesses b l (call.Evict core word) a e ok = grind arith
-accesses b l (call.Acquire core lock) a e ok = grind arith
-accesses b l (call.Release core lock) a e ok = grind arith
-accesses b l (call.Phase plan) a e ok = grind arith
-accesses b l call.Settle a e ok = grind arith
+accesses b l _ a e ok = grind arith
 
 pub access_below : (b : Setting) (l : Ledger) (k : Call) (a : Wanted) → access_of k ≡ Some a → refusal b l k ≡ None → a.core < b.figures.cores
 access_below b l (call.Load core word) a e ok =
@@ -75,22 +67,13 @@ access_below b l (call.Load core word) a e ok =
 access_below b l (call.Store core word value) a e ok =
     let eq : record { core = core; word = word } ≡ a = cc in
     subst (λ (x : Wanted). x.core < b.figures.cores) eq (store_passes b l core word value ok).in_cores
-access_below b l (call.Evict core word) a e ok = grind arith
-access_below b l (call.Acquire core lock) a e ok = grind arith
-access_below b l (call.Release core lock) a e ok = grind arith
-access_below b l (call.Phase plan) a e ok = grind arith
-access_below b l call.Settle a e ok = grind arith
+access_below b l _ a e ok = grind arith
 
 pub store_tells : (k : Call) (s : Written) → store_of k ≡ Some s → k ≡ call.Store s.core s.word s.value
-store_tells (call.Load core word) s e = grind arith
 store_tells (call.Store core word value) s e =
     let eq : record { core = core; word = word; value = value } ≡ s = cc in
     λ i. call.Store (eq i).core (eq i).word (eq i).value
-store_tells (call.Evict core word) s e = grind arith
-store_tells (call.Acquire core lock) s e = grind arith
-store_tells (call.Release core lock) s e = grind arith
-store_tells (call.Phase plan) s e = grind arith
-store_tells call.Settle s e = grind arith
+store_tells _ s e = grind arith
 
 pub store_accesses : (k : Call) (s : Written) → store_of k ≡ Some s → access_of k ≡ Some (record { core = s.core; word = s.word })
 store_accesses k s e = ap access_of (store_tells k s e)
@@ -107,11 +90,7 @@ access_concerns (call.Store core word value) a e = let who : core ≡ a.core = a
     core_in : Option Wanted → ℕ → ℕ
     core_in None d = d
     core_in (Some x) d = x.core
-access_concerns (call.Evict core word) a e = grind arith
-access_concerns (call.Acquire core lock) a e = grind arith
-access_concerns (call.Release core lock) a e = grind arith
-access_concerns (call.Phase plan) a e = grind arith
-access_concerns call.Settle a e = grind arith
+access_concerns _ a e = grind arith
 
 -- ── a store of this phase stays among its accesses ──
 
