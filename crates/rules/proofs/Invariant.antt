@@ -51,13 +51,8 @@ pub record Good (b : Setting) (now : ℕ → Word) (s : State) (g : Sets) : Type
 
 -- the words that the history says, after an accepted call
 abbrev pub now_after : Ledger → (ℕ → Word) → Call → ℕ → Word
-now_after l now (call.Load core word) = now
 now_after l now (call.Store core word value) = upd now word (record { value = value; mark = next_mark l core })
-now_after l now (call.Evict core word) = now
-now_after l now (call.Acquire core lock) = now
-now_after l now (call.Release core lock) = now
-now_after l now (call.Phase plan) = now
-now_after l now call.Settle = now
+now_after l now _ = now
 
 -- the state after an accepted call
 abbrev pub after : Setting → Sets → State → Call → State

@@ -105,13 +105,10 @@ stays_stored d w l (e ∷ h) none st = stays_stored d w (entered_by l e) h (both
     entered_stays : (k : Call) → e.call ≡ k → stored_in (entered l k).accesses d w ≡ true
     entered_stays (call.Load core word) q = stored_after_load l.accesses core word d w ∙ st
     entered_stays (call.Store core word value) q = stored_before l.accesses core word d w st
-    entered_stays (call.Evict core word) q = st
-    entered_stays (call.Acquire core lock) q = st
-    entered_stays (call.Release core lock) q = st
     entered_stays (call.Phase plan) q =
         let empty : plan ∷ [] ≡ [] = ap (λ (k : Call). plans_in (plan_of k)) (sym q) ∙ (both_empty (plans_in (plan_of e.call)) (plans_of h) none).0 in
         absurd cc
-    entered_stays call.Settle q = st
+    entered_stays _ q = st
 
     go : (t : Bool) → stored_in (cond t (entered l e.call) l).accesses d w ≡ true
     go true = entered_stays e.call refl

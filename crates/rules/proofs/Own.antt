@@ -45,17 +45,12 @@ own_releases c lock [] = 0
 own_releases c lock (k ∷ ks) = times c (cores_for lock (release_of k)) + own_releases c lock ks
 
 quiet_release : (c lock : ℕ) (k : Call) → eqb (caller_of k) c ≡ false → times c (cores_for lock (release_of k)) ≡ 0
-quiet_release c lock (call.Load core word) n = refl
-quiet_release c lock (call.Store core word value) n = refl
-quiet_release c lock (call.Evict core word) n = refl
-quiet_release c lock (call.Acquire core j) n = refl
 quiet_release c lock (call.Release core j) n = go (eqb j lock)
   where
     go : (t : Bool) → times c (cond t (core ∷ []) []) ≡ 0
     go true = ap (λ (b : Bool). cond {A = ℕ} b 1 0 + 0) n
     go false = refl
-quiet_release c lock (call.Phase plan) n = refl
-quiet_release c lock call.Settle n = refl
+quiet_release c lock _ n = refl
 
 pub releases_own : (c lock : ℕ) (h : History) → AllAccepted h → times c (releasers lock h) ≡ own_releases c lock (calls_of c h)
 releases_own c lock [] ok = refl
@@ -83,13 +78,8 @@ own_stores c [] = 0
 own_stores c (k ∷ ks) = by_core c (store_of k) + own_stores c ks
 
 quiet_store : (c : ℕ) (k : Call) → eqb (caller_of k) c ≡ false → by_core c (store_of k) ≡ 0
-quiet_store c (call.Load core word) n = refl
 quiet_store c (call.Store core word value) n = ap (λ (b : Bool). cond {A = ℕ} b 1 0) n
-quiet_store c (call.Evict core word) n = refl
-quiet_store c (call.Acquire core j) n = refl
-quiet_store c (call.Release core j) n = refl
-quiet_store c (call.Phase plan) n = refl
-quiet_store c call.Settle n = refl
+quiet_store c _ n = refl
 
 tracked_one : (w c : ℕ) (o : Option Written) (t : Tracked) → (track_by w o t).counts c ≡ t.counts c + by_core c o
 tracked_one w c None t = omega arith
@@ -144,13 +134,8 @@ last_plan plan [] = plan
 last_plan plan (p ∷ ps) = last_plan p ps
 
 plan_after : (l : Ledger) (k : Call) → (entered l k).plan ≡ last_plan l.plan (plans_in (plan_of k))
-plan_after l (call.Load core word) = refl
-plan_after l (call.Store core word value) = refl
-plan_after l (call.Evict core word) = refl
-plan_after l (call.Acquire core j) = refl
-plan_after l (call.Release core j) = refl
 plan_after l (call.Phase plan) = refl
-plan_after l call.Settle = refl
+plan_after l _ = refl
 
 last_append : (p : ℕ) (xs ys : List ℕ) → last_plan p (xs ++ ys) ≡ last_plan (last_plan p xs) ys
 last_append p [] ys = refl

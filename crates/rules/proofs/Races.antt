@@ -51,11 +51,8 @@ entered_accesses l c phase e is ok same = go c is
     go : (k : Call) → e.call ≡ k → (entered l k).accesses ≡ gathered (phase_by (begins e) phase e)
     go (call.Load core word) p = sym (stays (call.Load core word) p refl)
     go (call.Store core word value) p = sym (stays (call.Store core word value) p refl)
-    go (call.Evict core word) p = sym (stays (call.Evict core word) p refl ∙ append-nil l.accesses)
-    go (call.Acquire core lock) p = sym (stays (call.Acquire core lock) p refl ∙ append-nil l.accesses)
-    go (call.Release core lock) p = sym (stays (call.Release core lock) p refl ∙ append-nil l.accesses)
     go (call.Phase plan) p = sym (ap (λ (o : Option ℕ). gathered (phase_by o phase e)) (begins_is (call.Phase plan) p))
-    go call.Settle p = sym (stays call.Settle p refl ∙ append-nil l.accesses)
+    go c p = sym (stays c p refl ∙ append-nil l.accesses)
 
 pub accesses_told : (h : History) → (ledger_of h).accesses ≡ gathered (this_phase h)
 accesses_told h = along h (λ k. (ledger_of k).accesses ≡ gathered (this_phase k)) refl keep h [] (sym (append-nil h))

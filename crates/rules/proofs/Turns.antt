@@ -106,9 +106,6 @@ turn_entered l c lock got given by_holder t = go c refl
     unmoved = rw (append-nil got) (rw (append-nil given) t)
 
     go : (k : Call) → c ≡ k → Turn ((entered l k).locks lock) (got ++ cores_for lock (acquire_of k)) (given ++ cores_for lock (release_of k))
-    go (call.Load core word) e = unmoved
-    go (call.Store core word value) e = unmoved
-    go (call.Evict core word) e = unmoved
     go (call.Acquire core k) e =
         ⊎_elim
         (λ p. turn_like _ _ _ _ _ _ (p.1 ∙ ap (λ (j : ℕ). acquired_by (l.locks j).holder (l.locks j) core) (sym p.0)) (ap (λ (j : List ℕ). got ++ j) (cores_here lock k core p.0)) (append-nil given)
@@ -122,7 +119,7 @@ turn_entered l c lock got given by_holder t = go c refl
         (λ p. turn_like _ _ _ _ _ _ p.1 (append-nil got) (ap (λ (j : List ℕ). given ++ j) (cores_there lock k core p.0) ∙ append-nil given) t)
         (upd_cases l.locks k (released_to (l.locks k).queue core) lock)
     go (call.Phase plan) e = record { turns = unmoved.turns; nobody = t.nobody }
-    go call.Settle e = unmoved
+    go _ e = unmoved
 
 pub turn : (b : Setting) (h : History) → Legal b h → (lock : ℕ) (first rest : History) → h ≡ first ++ rest → Turn ((ledger_of first).locks lock) (acquirers lock first) (releasers lock first)
 turn b h ok lock first rest split = along h (λ p. Turn ((ledger_of p).locks lock) (acquirers lock p) (releasers lock p)) start keep first rest split

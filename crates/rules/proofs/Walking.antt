@@ -103,13 +103,8 @@ module _ (b : Setting) (fits : Fits b) (old : ℕ → Word) where
         unmoved w = fold_push _ _ h e ∙ ap (λ (o : Option Written). track_by w o (tracked w h)) (of_unrefused store_of e a ∙ none)
 
         counts_kept : (c : Call) → store_of c ≡ None → (k : ℕ) → l.counts k ≡ (entered l c).counts k
-        counts_kept (call.Load core word) p k = refl
         counts_kept (call.Store core word value) p k = absurd cc
-        counts_kept (call.Evict core word) p k = refl
-        counts_kept (call.Acquire core lock) p k = refl
-        counts_kept (call.Release core lock) p k = refl
-        counts_kept (call.Phase plan) p k = refl
-        counts_kept call.Settle p k = refl
+        counts_kept _ p k = refl
 
     -- an accepted store is now the last to its word
     store_told : (core word value : ℕ) → e.call ≡ call.Store core word value → refused_with e.answer ≡ None → core < 8 → l.counts core < 1000000 → Told b old (upd now word (record { value = value; mark = next_mark l core })) (entered l (call.Store core word value)) (h ++ (e ∷ []))
@@ -184,7 +179,6 @@ module _ (b : Setting) (fits : Fits b) (old : ℕ → Word) where
         plain c q none = subst (λ (k : Call). Told b old now (entered l k) (h ++ (e ∷ []))) q (plain_told (ap store_of q ∙ none) unrefused)
 
         go : (c : Call) → e.call ≡ c → refusal b l c ≡ None → Told b old (now_after l now c) (entered l c) (h ++ (e ∷ []))
-        go (call.Load core word) q r = plain (call.Load core word) q refl
         go (call.Store core word value) q r =
             let p = store_passes b l core word value r in
             let few = fits.cores in
@@ -192,11 +186,7 @@ module _ (b : Setting) (fits : Fits b) (old : ℕ → Word) where
             let below = p.in_cores in
             let spent = p.unspent in
             store_told core word value q unrefused (omega arith) (omega arith)
-        go (call.Evict core word) q r = plain (call.Evict core word) q refl
-        go (call.Acquire core lock) q r = plain (call.Acquire core lock) q refl
-        go (call.Release core lock) q r = plain (call.Release core lock) q refl
-        go (call.Phase plan) q r = plain (call.Phase plan) q refl
-        go call.Settle q r = plain call.Settle q refl
+        go c q r = plain c q refl
 
     -- one call, accepted or refused
     pub next_moment : e.answer ≡ (step b g s e.call).answer → Changes (step b g s e.call).changes g g' → Moment (h ++ (e ∷ [])) (step b g s e.call).state g'
