@@ -2,6 +2,7 @@
 -- says. Assumes nothing.
 use Rattle.std.proofs.Common.{◌≡◌, ℕ, Bool, true, false, cond, not, ◌&&◌, ◌||◌, eqb, ◌⊎◌, List, [], ◌∷◌, ◌++◌, Some, None, Option, sym, refl, ap, ◌∙◌, inl, inr, ⊎_elim, arith}
 use mathlib.Core.Bool.{or_assoc}
+use Rattle.std.proofs.Math.Bool.{or-false}
 use Rattle.std.proofs.lemmas.Bool.{eqb-true, eq-eqb, and_parts, or_cases, or_left, or_right, cases_Bool, both_ways, and_from, not_from_false}
 use Rattle.call.specs.declared.refusal.Access.{Access}
 use Rattle.call.specs.declared.refusal.Access.TheVariants.{Load, Store}
@@ -38,11 +39,7 @@ stored_in accesses d w = some_of (store_by d w) accesses
 -- one more load is no store
 pub stored_after_load : (accesses : List Accessed) (core word d w : ℕ) → stored_in (accesses ++ (record { core = core; word = word; access = Load } ∷ [])) d w ≡ stored_in accesses d w
 stored_after_load accesses core word d w =
-    some_of_append (store_by d w) accesses (record { core = core; word = word; access = Load } ∷ []) ∙ go (stored_in accesses d w)
-  where
-    go : (t : Bool) → (t || false) ≡ t
-    go true = refl
-    go false = refl
+    some_of_append (store_by d w) accesses (record { core = core; word = word; access = Load } ∷ []) ∙ or-false (stored_in accesses d w)
 
 -- one more store is that store, and leaves those before
 pub stored_before : (accesses : List Accessed) (core word d w : ℕ) → stored_in accesses d w ≡ true → stored_in (accesses ++ (record { core = core; word = word; access = Store } ∷ [])) d w ≡ true

@@ -4,6 +4,7 @@ use Rattle.std.proofs.Common.{◌≡◌, ℕ, Bool, true, false, cond, not, ◌&
 use Rattle.std.proofs.lemmas.List.Sums.{fold_push}
 use Rattle.std.specs.List.{flat_map}
 use Rattle.std.proofs.lemmas.List.{append-nil}
+use Rattle.std.proofs.Math.Bool.{or-false}
 use Rattle.std.proofs.lemmas.Bool.{eqb-true, eqb-false, and_parts, cond-true, cond-false, not-true}
 use Rattle.call.specs.declared.call.Call.{Call}
 use Rattle.call.specs.declared.call.Call.TheVariants as call
@@ -147,11 +148,7 @@ some_gathered access core word (e ∷ h) =
   where
     one : (o : Option Accessed) → some_of (by_another access core word) (listed o) ≡ passes (by_another access core word) o
     one None = refl
-    one (Some a) = go (by_another access core word a)
-      where
-        go : (t : Bool) → (t || false) ≡ t
-        go true = refl
-        go false = refl
+    one (Some a) = or-false (by_another access core word a)
 
 none_found : (access : Access) (core word : ℕ) (all : List Accessed) → earliest access core word all ≡ None → some_of (by_another access core word) all ≡ false
 none_found access core word [] e = refl

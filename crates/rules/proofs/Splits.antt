@@ -4,7 +4,7 @@ use Rattle.std.proofs.Common.{◌≡◌, Bool, true, false, ◌||◌, List, [], 
 use Rattle.std.proofs.lemmas.List.Concat.{flat_map-append}
 use Rattle.std.specs.List.{flat_map}
 use Rattle.std.proofs.lemmas.List.{append-nil}
-use Rattle.std.proofs.lemmas.Bool.{both_ways, cases_Bool}
+use Rattle.std.proofs.lemmas.Bool.{both_ways, cases_Bool, or_parts}
 use Rattle.rules.specs.Tables.{some_of}
 
 -- a member of a list, with what stands before and after it
@@ -63,14 +63,8 @@ last_of p (x ∷ h) e =
 
 -- a member of the middle passes no test that no member passes
 pub none_at : {X : Type 0} (p : X → Bool) (A : List X) (x : X) (B : List X) → some_of p (A ++ (x ∷ B)) ≡ false → p x ≡ false
-none_at p [] x B e = here (p x) (some_of p B) e
-  where
-    here : (a b : Bool) → (a || b) ≡ false → a ≡ false
-    here a b t = grind arith
-none_at p (a ∷ A) x B e = none_at p A x B (there (p a) (some_of p (A ++ (x ∷ B))) e)
-  where
-    there : (a b : Bool) → (a || b) ≡ false → b ≡ false
-    there a b t = grind arith
+none_at p [] x B e = (or_parts (p x) (some_of p B) e).0
+none_at p (a ∷ A) x B e = none_at p A x B (or_parts (p a) (some_of p (A ++ (x ∷ B))) e).1
 
 -- ── along a history ──
 
