@@ -45,8 +45,7 @@ refusals_told r before e after split =
 
 load_of_tells : (c : Call) (w : Wanted) → load_of c ≡ Some w → c ≡ call.Load w.core w.word
 load_of_tells (call.Load core word) w e =
-    let same = same_Some _ w e in
-    λ i. call.Load (same i).core (same i).word
+    grind arith
 load_of_tells _ w e = grind arith
 
 -- what an accepted load tells of its event

@@ -62,17 +62,14 @@ accesses b l _ a e ok = grind arith
 
 pub access_below : (b : Setting) (l : Ledger) (k : Call) (a : Wanted) → access_of k ≡ Some a → refusal b l k ≡ None → a.core < b.figures.cores
 access_below b l (call.Load core word) a e ok =
-    let eq : record { core = core; word = word } ≡ a = cc in
-    subst (λ (x : Wanted). x.core < b.figures.cores) eq (load_passes b l core word ok).in_cores
+    grind (arith, (load_passes b l core word ok).in_cores)
 access_below b l (call.Store core word value) a e ok =
-    let eq : record { core = core; word = word } ≡ a = cc in
-    subst (λ (x : Wanted). x.core < b.figures.cores) eq (store_passes b l core word value ok).in_cores
+    grind (arith, (store_passes b l core word value ok).in_cores)
 access_below b l _ a e ok = grind arith
 
 pub store_tells : (k : Call) (s : Written) → store_of k ≡ Some s → k ≡ call.Store s.core s.word s.value
 store_tells (call.Store core word value) s e =
-    let eq : record { core = core; word = word; value = value } ≡ s = cc in
-    λ i. call.Store (eq i).core (eq i).word (eq i).value
+    grind arith
 store_tells _ s e = grind arith
 
 pub store_accesses : (k : Call) (s : Written) → store_of k ≡ Some s → access_of k ≡ Some (record { core = s.core; word = s.word })
@@ -80,16 +77,8 @@ store_accesses k s e = ap access_of (store_tells k s e)
 
 -- an access is one of its core's calls
 pub access_concerns : (k : Call) (a : Wanted) → access_of k ≡ Some a → concerns a.core k ≡ true
-access_concerns (call.Load core word) a e = let who : core ≡ a.core = ap (λ (x : Option Wanted). core_in x core) e in eq-eqb core a.core who
-  where
-    core_in : Option Wanted → ℕ → ℕ
-    core_in None d = d
-    core_in (Some x) d = x.core
-access_concerns (call.Store core word value) a e = let who : core ≡ a.core = ap (λ (x : Option Wanted). core_in x core) e in eq-eqb core a.core who
-  where
-    core_in : Option Wanted → ℕ → ℕ
-    core_in None d = d
-    core_in (Some x) d = x.core
+access_concerns (call.Load core word) a e = grind (arith, eq-eqb core a.core)
+access_concerns (call.Store core word value) a e = grind (arith, eq-eqb core a.core)
 access_concerns _ a e = grind arith
 
 -- ── a store of this phase stays among its accesses ──
@@ -134,12 +123,7 @@ no_more xs ys l = let whole = length-append xs ys in nil_from_length ys (omega a
 
 -- four bits name one of eight locks
 locked_below : (bits lock : ℕ) → bits < 16 → mode_of_bits bits ≡ locked lock → lock < 8
-locked_below bits lock small e = go (eqb bits 0) (leb 8 bits) e
-  where
-    go : (t u : Bool) → cond t read_only (cond u (locked (bits - 8)) written) ≡ locked lock → lock < 8
-    go true u q = grind arith
-    go false true q = let eq : bits - 8 ≡ lock = cc in omega arith
-    go false false q = grind arith
+locked_below bits lock small e = grind arith
 
 -- the calls before a spot were accepted
 pub before_ok : (h : History) → ((before : History) (e : Event) (after : History) → h ≡ before ++ (e ∷ after) → refused_with e.answer ≡ None) → (p : Spot h) → AllAccepted p.before

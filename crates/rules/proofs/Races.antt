@@ -83,10 +83,8 @@ record FirstAccess (access : Access) (core word named : ℕ) (all : List Accesse
   none : some_of (by_another access core word) front ≡ false
 
 same_access_tells : (a b : Access) → same_access a b ≡ true → a ≡ b
-same_access_tells Load Load e = refl
-same_access_tells Load Store e = grind arith
-same_access_tells Store Load e = grind arith
-same_access_tells Store Store e = refl
+same_access_tells Load _ e = grind arith
+same_access_tells Store _ e = grind arith
 
 first_access : (access : Access) (core word named : ℕ) (all : List Accessed) → earliest access core word all ≡ Some named → FirstAccess access core word named all
 first_access access core word named [] e = grind arith
@@ -152,11 +150,7 @@ some_gathered access core word (e ∷ h) =
 
 none_found : (access : Access) (core word : ℕ) (all : List Accessed) → earliest access core word all ≡ None → some_of (by_another access core word) all ≡ false
 none_found access core word [] e = refl
-none_found access core word (a ∷ more) e = go (by_another access core word a) e (λ k. none_found access core word more k)
-  where
-    go : (t : Bool) → cond t (Some a.core) (earliest access core word more) ≡ None → (earliest access core word more ≡ None → some_of (by_another access core word) more ≡ false) → (t || some_of (by_another access core word) more) ≡ false
-    go true k later = grind arith
-    go false k later = later k
+none_found access core word (a ∷ more) e = grind (arith, none_found access core word more)
 
 -- ── the row that names the race ──
 
@@ -184,7 +178,7 @@ only (Some x) y e = e
 
 race_tells : (access : Access) (o : Option ℕ) (named : ℕ) (kind : Access) → as_race access o ≡ Some (Race named kind) → (o ≡ Some named) × (access ≡ kind)
 race_tells access None named kind e = grind arith
-race_tells access (Some c) named kind e = let a : c ≡ named = cc in let b : access ≡ kind = cc in (ap (λ (x : ℕ). Some x) a, b)
+race_tells access (Some c) named kind e = (cc, cc)
 
 load_found : (m : Mode) (accesses : List Accessed) (core word named : ℕ) (kind : Access) → load_race m accesses core word ≡ Some (Race named kind) → FoundRace accesses (call.Load core word) named kind
 load_found read_only accesses core word named kind e = grind arith

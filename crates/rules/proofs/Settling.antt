@@ -83,11 +83,7 @@ fade_keeps f plan now stale none m still s =
   where
     was_registered : (k : Copy) (w : ℕ) (x : Word) → faded f plan k ≡ registered w x → k ≡ registered w x
     was_registered invalid w x e = e
-    was_registered (valid v y) w x e = let b : ⊥ = go (dropped f plan (valid v y)) e in absurd b
-      where
-        go : (t : Bool) → cond t invalid (valid v y) ≡ registered w x → ⊥
-        go true h = grind arith
-        go false h = grind arith
+    was_registered (valid v y) w x e = grind arith
     was_registered (registered v y) w x e = e
 
     stayed : (c w : ℕ) (x : Word) (k : Copy) → m.copies c (slot_of f w) ≡ k → faded f plan k ≡ valid w x → (x ≡ now w) ⊎ none c w

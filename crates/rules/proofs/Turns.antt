@@ -29,8 +29,7 @@ pub record Legal (b : Setting) (h : History) : Type 0 where
   pub passes : (before : History) (e : Event) (after : History) → h ≡ before ++ (e ∷ after) → refusal b (ledger_of before) e.call ≡ None
 
 accepted_tells : (o : Option Refusal) → not (is_some o) ≡ true → o ≡ None
-accepted_tells None e = refl
-accepted_tells (Some r) e = grind arith
+accepted_tells o e = grind arith
 
 pub legal : (r : Ran) → Unrefused r.history → Legal (setting r.figures r.page) r.history
 legal r ok =
