@@ -2,10 +2,11 @@
 -- and the first of them that passes a test stands in the history. Assumes nothing.
 use Rattle.std.proofs.Common.{◌≡◌, ℕ, Bool, true, false, cond, not, ◌&&◌, ◌||◌, eqb, leb, List, [], ◌∷◌, ◌++◌, Some, None, Option, sym, refl, ap, ◌∙◌, subst, inl, inr, ⊎_elim, arith}
 use Rattle.std.proofs.lemmas.List.Sums.{fold_push}
+use Rattle.std.proofs.lemmas.Option.{none-some, same_Some}
 use Rattle.std.specs.List.{flat_map}
 use Rattle.std.proofs.lemmas.List.{append-nil}
 use Rattle.std.proofs.Math.Bool.{or-false}
-use Rattle.std.proofs.lemmas.Bool.{eqb-true, eqb-false, and_parts, cond-true, cond-false, not-true}
+use Rattle.std.proofs.lemmas.Bool.{eqb-true, eqb-false, and_parts, cond-true, cond-false, not-true, both_ways}
 use Rattle.call.specs.declared.call.Call.{Call}
 use Rattle.call.specs.declared.call.Call.TheVariants as call
 use Rattle.call.specs.declared.refusal.Access.{Access}
@@ -161,20 +162,35 @@ record FoundRace (accesses : List Accessed) (c : Call) (named : ℕ) (kind : Acc
   found : earliest kind caller.core caller.word accesses ≡ Some named
   loads_last : kind ≡ Load → (caller.access ≡ Store) × (earliest Store caller.core caller.word accesses ≡ None)
 
--- the refusal of a call is one of its rows
-in_first : (rs : List (Option Refusal)) (y : Refusal) → first rs ≡ Some y → In (Some y) rs
-in_first [] y e = grind arith
-in_first (None ∷ rs) y e = inr (in_first rs y e)
-in_first (Some x ∷ rs) y e = inl (sym e)
+-- rows that are met by a test each, before the rest; and whether none of them names a race
+abbrev tested : List (Bool × Refusal) → List (Option Refusal) → List (Option Refusal)
+tested [] rest = rest
+tested (p ∷ ps) rest = when p.0 p.1 ∷ tested ps rest
 
--- and a row of another refusal names no race
-no_row : {X : Type 0} (t : Bool) (x y : Refusal) → (x ≡ y → ⊥) → Some y ≡ when t x → X
-no_row true x y n e = absurd (n (let eq : x ≡ y = cc in eq))
-no_row false x y n e = grind arith
+abbrev is_race : Refusal → Bool
+is_race (Race named kind) = true
+is_race _ = false
 
-only : (o : Option Refusal) (y : Refusal) → first (o ∷ []) ≡ Some y → o ≡ Some y
-only None y e = grind arith
-only (Some x) y e = e
+abbrev raceless : List (Bool × Refusal) → Bool
+raceless [] = true
+raceless (p ∷ ps) = not (is_race p.1) && raceless ps
+
+-- a race that comes first stands behind the rows that name none
+past : (ps : List (Bool × Refusal)) (rest : List (Option Refusal)) (named : ℕ) (kind : Access) → raceless ps ≡ true → first (tested ps rest) ≡ Some (Race named kind) → first rest ≡ Some (Race named kind)
+past [] rest named kind r e = e
+past ((false, x) ∷ ps) rest named kind r e = past ps rest named kind (and_parts (not (is_race x)) (raceless ps) r).1 e
+past ((true, x) ∷ ps) rest named kind r e =
+    let same : x ≡ Race named kind = cc in
+    absurd (both_ways (is_race x) (not-true (is_race x) (and_parts (not (is_race x)) (raceless ps) r).0) (ap is_race same))
+
+alone : (o : Option Refusal) (y : Refusal) → first (o ∷ []) ≡ Some y → o ≡ Some y
+alone None y e = grind arith
+alone (Some x) y e = e
+
+only : (o : Option Refusal) (t : Bool) (y x : Refusal) → (y ≡ x → ⊥) → first (o ∷ when t x ∷ []) ≡ Some y → o ≡ Some y
+only (Some z) t y x n e = e
+only None true y x n e = absurd (n (sym (same_Some x y e)))
+only None false y x n e = grind arith
 
 race_tells : (access : Access) (o : Option ℕ) (named : ℕ) (kind : Access) → as_race access o ≡ Some (Race named kind) → (o ≡ Some named) × (access ≡ kind)
 race_tells access None named kind e = grind arith
@@ -208,7 +224,7 @@ store_found written accesses core word value named kind e = go (earliest Store c
           loads_last = λ l. let z : ◌≡◌ {A = Access} Store Load = what ∙ l in grind arith;
         }
     go None s k =
-        let t = race_tells Load (earliest Load core word accesses) named kind (only (as_race Load (earliest Load core word accesses)) (Race named kind) k) in
+        let t = race_tells Load (earliest Load core word accesses) named kind (alone (as_race Load (earliest Load core word accesses)) (Race named kind) k) in
         record {
           caller = record { core = core; word = word; access = Store };
           calls = refl;
@@ -218,23 +234,20 @@ store_found written accesses core word value named kind e = go (earliest Store c
 
 found_race : (b : Setting) (l : Ledger) (c : Call) (named : ℕ) (kind : Access) → refusal b l c ≡ Some (Race named kind) → FoundRace l.accesses c named kind
 found_race b l (call.Load core word) named kind e =
-    (⊎_elim (no_row (leb b.figures.cores core) NoCore (Race named kind) (λ x. grind arith)) (⊎_elim (no_row (leb b.size word) OutsideBoard (Race named kind) (λ x. grind arith)) (⊎_elim (no_row (waits l.locks core) Waiting (Race named kind) (λ x. grind arith)) (⊎_elim (no_row (shut_out l.locks (mode b l word) core) NotHolder (Race named kind) (λ x. grind arith)) (⊎_elim (λ here. load_found (mode b l word) l.accesses core word named kind (sym here)) (λ none. absurd none))))))
-    (in_first (rows b l (call.Load core word)) (Race named kind) e)
+    load_found (mode b l word) l.accesses core word named kind
+    (alone _ _ (past ((leb b.figures.cores core, NoCore) ∷ (leb b.size word, OutsideBoard) ∷ (waits l.locks core, Waiting) ∷ (shut_out l.locks (mode b l word) core, NotHolder) ∷ []) (load_race (mode b l word) l.accesses core word ∷ []) named kind refl e))
 found_race b l (call.Store core word value) named kind e =
-    (⊎_elim (no_row (leb b.figures.cores core) NoCore (Race named kind) (λ x. grind arith)) (⊎_elim (no_row (leb b.size word) OutsideBoard (Race named kind) (λ x. grind arith)) (⊎_elim (no_row (waits l.locks core) Waiting (Race named kind) (λ x. grind arith)) (⊎_elim (no_row (is_read_only (mode b l word)) ReadOnly (Race named kind) (λ x. grind arith)) (⊎_elim (no_row (shut_out l.locks (mode b l word) core) NotHolder (Race named kind) (λ x. grind arith)) (⊎_elim (λ here. store_found (mode b l word) l.accesses core word value named kind (sym here)) (⊎_elim (no_row (leb b.figures.allowance (l.counts core)) AllowanceSpent (Race named kind) (λ x. grind arith)) (λ none. absurd none))))))))
-    (in_first (rows b l (call.Store core word value)) (Race named kind) e)
+    store_found (mode b l word) l.accesses core word value named kind
+    (only _ (leb b.figures.allowance (l.counts core)) _ AllowanceSpent (λ x. grind arith)
+    (past ((leb b.figures.cores core, NoCore) ∷ (leb b.size word, OutsideBoard) ∷ (waits l.locks core, Waiting) ∷ (is_read_only (mode b l word), ReadOnly) ∷ (shut_out l.locks (mode b l word) core, NotHolder) ∷ []) (store_race (mode b l word) l.accesses core word ∷ when (leb b.figures.allowance (l.counts core)) AllowanceSpent ∷ []) named kind refl e))
 found_race b l (call.Evict core word) named kind e =
-    (⊎_elim (no_row (leb b.figures.cores core) NoCore (Race named kind) (λ x. grind arith)) (⊎_elim (no_row (leb b.size word) OutsideBoard (Race named kind) (λ x. grind arith)) (λ none. absurd none)))
-    (in_first (rows b l (call.Evict core word)) (Race named kind) e)
+    absurd (none-some _ (past ((leb b.figures.cores core, NoCore) ∷ (leb b.size word, OutsideBoard) ∷ []) [] named kind refl e))
 found_race b l (call.Acquire core lock) named kind e =
-    (⊎_elim (no_row (leb b.figures.cores core) NoCore (Race named kind) (λ x. grind arith)) (⊎_elim (no_row (waits l.locks core) Waiting (Race named kind) (λ x. grind arith)) (⊎_elim (no_row (leb 8 lock) NoLock (Race named kind) (λ x. grind arith)) (⊎_elim (no_row (holds_some l.locks core) HoldsLock (Race named kind) (λ x. grind arith)) (λ none. absurd none)))))
-    (in_first (rows b l (call.Acquire core lock)) (Race named kind) e)
+    absurd (none-some _ (past ((leb b.figures.cores core, NoCore) ∷ (waits l.locks core, Waiting) ∷ (leb 8 lock, NoLock) ∷ (holds_some l.locks core, HoldsLock) ∷ []) [] named kind refl e))
 found_race b l (call.Release core lock) named kind e =
-    (⊎_elim (no_row (leb b.figures.cores core) NoCore (Race named kind) (λ x. grind arith)) (⊎_elim (no_row (waits l.locks core) Waiting (Race named kind) (λ x. grind arith)) (⊎_elim (no_row (leb 8 lock) NoLock (Race named kind) (λ x. grind arith)) (⊎_elim (no_row (not (holds l.locks core lock)) NotHeld (Race named kind) (λ x. grind arith)) (λ none. absurd none)))))
-    (in_first (rows b l (call.Release core lock)) (Race named kind) e)
+    absurd (none-some _ (past ((leb b.figures.cores core, NoCore) ∷ (waits l.locks core, Waiting) ∷ (leb 8 lock, NoLock) ∷ (not (holds l.locks core lock), NotHeld) ∷ []) [] named kind refl e))
 found_race b l (call.Phase plan) named kind e =
-    (⊎_elim (no_row (has_bad_mode plan) BadMode (Race named kind) (λ x. grind arith)) (⊎_elim (no_row (some_held l.locks) LockHeld (Race named kind) (λ x. grind arith)) (λ none. absurd none)))
-    (in_first (rows b l (call.Phase plan)) (Race named kind) e)
+    absurd (none-some _ (past ((has_bad_mode plan, BadMode) ∷ (some_held l.locks, LockHeld) ∷ []) [] named kind refl e))
 found_race b l call.Settle named kind e = grind arith
 
 -- ── the law ──
