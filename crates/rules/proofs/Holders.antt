@@ -4,6 +4,9 @@
 use Rattle.std.proofs.Common.{◌≡◌, ℕ, zero, suc, ◌+◌, ◌-◌, ◌<◌, ◌≤◌, cond, eqb, List, [], ◌∷◌, ◌++◌, length, take, Some, None, Option, refl, ap, ◌∙◌, append_assoc, arith, length-append}
 use Rattle.std.proofs.lemmas.List.Concat.{flat_map-append}
 use Rattle.std.proofs.lemmas.Bool.{cond-true, eq-eqb}
+use Rattle.std.specs.List.{count_by}
+use Rattle.std.specs.Prelude.{◌==◌}
+use Rattle.std.proofs.lemmas.List.Sums.{sum_by-append, sum_by-cons}
 use Rattle.rules.specs.Histories.{acquirers, releasers, order_of_holders, ledger_of}
 use Rattle.rules.specs.Runs.{History}
 use Rattle.rules.specs.State.{Setting}
@@ -22,18 +25,16 @@ take_past (x ∷ xs) c ys (suc n) l =
 
 -- how often a core stands in a list
 abbrev pub times : ℕ → List ℕ → ℕ
-times c [] = 0
-times c (x ∷ xs) = cond {A = ℕ} (eqb x c) 1 0 + times c xs
+times c xs = count_by (λ x. x == c) xs
 
 pub times_append : (c : ℕ) (xs ys : List ℕ) → times c (xs ++ ys) ≡ times c xs + times c ys
-times_append c [] ys = omega arith
-times_append c (x ∷ xs) ys = let more = times_append c xs ys in omega arith
+times_append c xs ys = sum_by-append _ xs ys
 
 times_here : (c : ℕ) (xs ys : List ℕ) → times c xs < times c (xs ++ (c ∷ ys))
 times_here c xs ys =
     let whole = times_append c xs (c ∷ ys) in
     let one : cond {A = ℕ} (eqb c c) 1 0 ≡ 1 = cond-true (eqb c c) 1 0 (eq-eqb c c refl) in
-    omega arith
+    omega (arith, sum_by-cons (λ (x : ℕ). cond {A = ℕ} (x == c) 1 0) c ys)
 
 -- two beginnings of one list before a core that stands equally often in them are one
 pub same_beginning : (c : ℕ) (xs ys us vs : List ℕ) → xs ++ (c ∷ us) ≡ ys ++ (c ∷ vs) → times c xs ≡ times c ys → xs ≡ ys

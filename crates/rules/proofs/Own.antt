@@ -48,7 +48,7 @@ quiet_release : (c lock : ℕ) (k : Call) → eqb (caller_of k) c ≡ false → 
 quiet_release c lock (call.Release core j) n = go (eqb j lock)
   where
     go : (t : Bool) → times c (cond t (core ∷ []) []) ≡ 0
-    go true = ap (λ (b : Bool). cond {A = ℕ} b 1 0 + 0) n
+    go true = ap (λ (b : Bool). 0 + cond {A = ℕ} b 1 0) n
     go false = refl
 quiet_release c lock _ n = refl
 

@@ -184,13 +184,10 @@ past ((true, x) ∷ ps) rest named kind r e =
     absurd (both_ways (is_race x) (not-true (is_race x) (and_parts (not (is_race x)) (raceless ps) r).0) (ap is_race same))
 
 alone : (o : Option Refusal) (y : Refusal) → first (o ∷ []) ≡ Some y → o ≡ Some y
-alone None y e = grind arith
-alone (Some x) y e = e
+alone o y e = grind arith
 
 only : (o : Option Refusal) (t : Bool) (y x : Refusal) → (y ≡ x → ⊥) → first (o ∷ when t x ∷ []) ≡ Some y → o ≡ Some y
-only (Some z) t y x n e = e
-only None true y x n e = absurd (n (sym (same_Some x y e)))
-only None false y x n e = grind arith
+only o t y x n e = grind arith
 
 race_tells : (access : Access) (o : Option ℕ) (named : ℕ) (kind : Access) → as_race access o ≡ Some (Race named kind) → (o ≡ Some named) × (access ≡ kind)
 race_tells access None named kind e = grind arith
