@@ -51,9 +51,7 @@ module _ (f : Five) (page : List Word) (ok : checked f ≡ Ok f) where
             record {
               owned = λ w c e. absurd cc;
               mine = λ c i w x e. grind arith;
-              placed = λ c i w x e. grind arith;
-              inside = λ c i w x e. grind arith;
-              ranged = λ c i w x e. grind arith;
+              stands = λ c i w x e. grind arith;
               home = λ w e. refl;
               seen = λ c w x e. grind arith;
             };

@@ -9,7 +9,7 @@ use Rattle.rules.specs.Effects as effect
 use Rattle.rules.specs.Effects.{Got, Put, Place, with_copy, write_back, write_back_by, word_in, fetch, fetch_into, fetch_by, load_row, hit, claim, claim_from, claim_by, store_row, evict_row, places, dropped, faded}
 use Rattle.rules.specs.State.{Copy, invalid, valid, registered, Memory, page_word, of_word, copy_of}
 use Rattle.rules.specs.Tables.{upd, upd2}
-use Rattle.rules.proofs.Memories.{Sound, Unregistered, Loose, write_back_sound, write_back_clears, dropped_sound, filled_sound, loose_unowned, loose_taken, claimed_sound}
+use Rattle.rules.proofs.Memories.{Sound, Unregistered, Loose, write_back_sound, write_back_clears, dropped_sound, filled_sound, loose_unowned, loose_taken, claimed_sound, stored_stands, stored_seen}
 use Rattle.rules.proofs.Tables.{upd_cases, upd2_cases}
 
 -- the page keeps its length
@@ -50,7 +50,7 @@ module _ (f : Five) (now : ℕ → Word) (stale : ℕ → ℕ → Type 0) where
   filled_loads m n core word x source e free len s =
       record {
         fresh = e;
-        sound = subst (λ (y : Word). Sound f now stale (with_copy n core (slot_of f word) (valid word y))) (sym e) (filled_sound f now stale n core (slot_of f word) free s word refl);
+        sound = subst (λ (y : Word). Sound f now stale (with_copy n core (slot_of f word) (valid word y))) (sym e) (filled_sound f now stale n core (slot_of f word) free s word);
         long = len;
       }
 
@@ -136,22 +136,10 @@ module _ (f : Five) (now : ℕ → Word) (stale worse : ℕ → ℕ → Type 0) 
       record {
         owned = λ w d e. grind (arith, upd_cases now word x w, upd2_cases m.copies core (slot_of f word) (registered word x) d (slot_of f w), s.owned w d e, s.mine core (slot_of f word) word y here);
         mine = λ d j w z e. grind (arith, upd2_cases m.copies core (slot_of f word) (registered word x) d j, s.mine d j w z, s.mine core (slot_of f word) word y here);
-        placed = λ d j w z e. grind (arith, upd2_cases m.copies core (slot_of f word) (registered word x) d j, s.placed d j w z);
-        inside = λ d j w z e. grind (arith, upd2_cases m.copies core (slot_of f word) (registered word x) d j, s.inside d j w z, s.inside core (slot_of f word) word y here);
-        ranged = λ d j w z e. grind (arith, upd2_cases m.copies core (slot_of f word) (registered word x) d j, s.ranged d j w z);
+        stands = stored_stands f now stale word m core x below (s.stands core (slot_of f word) word y here).inside s.stands;
         home = λ w e. grind (arith, upd_cases now word x w, s.home w e, s.mine core (slot_of f word) word y here);
-        seen = seen_replaced;
+        seen = stored_seen f now stale word m core x worse more others s.seen;
       }
-    where
-      seen_replaced : (d w : ℕ) (z : Word) → upd2 m.copies core (slot_of f word) (registered word x) d (slot_of f w) ≡ valid w z → (z ≡ upd now word x w) ⊎ worse d w
-      seen_replaced d w z e =
-          ⊎_elim
-          (λ p. let q : registered word x ≡ valid w z = sym p.2 ∙ e in grind arith)
-          (λ p. ⊎_elim
-          (λ q. inr (let away : d ≡ core → ⊥ = λ h. p.0 h (ap (slot_of f) q.0) in grind (arith, others d away, q.0)))
-          (λ q. ⊎_elim (λ r. inl (r ∙ sym q.1)) (λ r. inr (more d w r)) (s.seen d w z (sym p.1 ∙ e)))
-          (upd_cases now word x w))
-          (upd2_cases m.copies core (slot_of f word) (registered word x) d (slot_of f w))
 
   pub store_keeps : (m : Memory) → word < length m.page → Sound f now stale m → Keeps f (upd now word x) worse m (effect.store f m core word x)
   store_keeps m within s = go (copy_of f m core word) refl

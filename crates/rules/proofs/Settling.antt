@@ -60,7 +60,7 @@ module _ (f : Five) (now : ℕ → Word) (stale : ℕ → ℕ → Type 0) where
       go None e = refl
       go (Some c) e =
           let here = after.owned w c e in
-          let ranged = after.ranged c (slot_of f w) w (now w) here in
+          let ranged = (after.stands c (slot_of f w) w (now w) here).ranged in
           let no_way : ⊥ = written_back_clears m (places f) (record { core = c; slot = slot_of f w }) (in_places f c (slot_of f w) ranged (mod-lt w some)) s w (now w) here in
           absurd no_way
 
@@ -72,9 +72,7 @@ fade_keeps f plan now stale none m still s =
           record {
             owned = λ w c e. ap (faded f plan) (s.owned w c e);
             mine = λ c i w x e. s.mine c i w x (was_registered (m.copies c i) w x e);
-            placed = λ c i w x e. s.placed c i w x (was_registered (m.copies c i) w x e);
-            inside = λ c i w x e. s.inside c i w x (was_registered (m.copies c i) w x e);
-            ranged = λ c i w x e. s.ranged c i w x (was_registered (m.copies c i) w x e);
+            stands = λ c i w x e. s.stands c i w x (was_registered (m.copies c i) w x e);
             home = s.home;
             seen = λ c w x e. stayed c w x (m.copies c (slot_of f w)) refl e;
           };
