@@ -1,6 +1,6 @@
 -- What a core's own calls with the phase calls decide, in a history without a refusal: how often it released a lock, how many
 -- stores it has made, and the plan in force. And the call at a place among them stands in the history. Assumes nothing.
-use Rattle.std.proofs.Common.{◌≡◌, ℕ, ◌+◌, Bool, true, false, cond, not, eqb, List, [], ◌∷◌, ◌++◌, is_some, Some, None, fold, Option, sym, refl, ap, ◌∙◌, zero-add, arith}
+use Rattle.std.proofs.Common.{◌≡◌, ℕ, ◌+◌, Bool, true, false, cond, not, eqb, List, [], ◌∷◌, ◌++◌, is_some, Some, None, fold, Option, sym, refl, ap, ◌∙◌, inl, inr, ⊎_elim, zero-add, arith}
 use Rattle.std.specs.List.{flat_map}
 use Rattle.std.proofs.lemmas.Bool.{eqb-true, eqb-false, cond-true, cond-false, cases_Bool, or_parts}
 use Rattle.call.specs.Calls.{caller_of}
@@ -12,7 +12,7 @@ use Rattle.rules.specs.Runs.{Event, History}
 use Rattle.rules.specs.State.{Ledger}
 use Rattle.rules.specs.Steps.{entered}
 use Rattle.rules.proofs.Holders.{times, times_append}
-use Rattle.rules.proofs.Splits.{Spot}
+use Rattle.rules.proofs.Splits.{Spot, OneOrNone, source}
 use Rattle.rules.proofs.Tables.{upd_cases}
 use Rattle.rules.proofs.Walking.{of_unrefused}
 
@@ -159,29 +159,10 @@ pub record Found (c : ℕ) (k : Call) (mine : List Call) (h : History) : Type 0 
   pub place : calls_of c spot.before ≡ mine
   pub call : spot.event.call ≡ k
 
-found_under : (c : ℕ) (k : Call) (mine : List Call) (e : Event) (h : History) (front : List Call) → cond (concerns c e.call) (e.call ∷ []) [] ≡ front → Found c k mine h → Found c k (front ++ mine) (e ∷ h)
-found_under c k mine e h front q p =
-    record {
-      spot = record { before = e ∷ p.spot.before; event = p.spot.event; after = p.spot.after; stands = ap (λ (x : History). e ∷ x) p.spot.stands };
-      place = (λ i. q i ++ p.place i);
-      call = p.call;
-    }
+one_call : (c : ℕ) → OneOrNone (λ (e : Event). cond (concerns c e.call) (e.call ∷ []) [])
+one_call c e = ⊎_elim (λ t. inr (e.call, cond-true _ _ _ t)) (λ t. inl (cond-false _ _ _ t)) (cases_Bool (concerns c e.call))
 
 pub found : (c : ℕ) (h : History) (mine : List Call) (k : Call) (rest : List Call) → calls_of c h ≡ mine ++ (k ∷ rest) → Found c k mine h
-found c [] mine k rest e = absurd (never mine e)
-  where
-    never : (xs : List Call) → [] ≡ xs ++ (k ∷ rest) → ⊥
-    never [] q = grind arith
-    never (x ∷ xs) q = grind arith
-found c (e ∷ h) mine k rest q = go (concerns c e.call) refl (λ m s. found c h m k rest s)
-  where
-    own : (m : List Call) → concerns c e.call ≡ true → e.call ∷ calls_of c h ≡ m ++ (k ∷ rest) → ((n : List Call) → calls_of c h ≡ n ++ (k ∷ rest) → Found c k n h) → Found c k m (e ∷ h)
-    own [] t s more = record { spot = record { before = []; event = e; after = h; stands = refl }; place = refl; call = let eq : e.call ≡ k = cc in eq }
-    own (x ∷ m) t s more =
-        let head : e.call ≡ x = cc in
-        let tail : calls_of c h ≡ m ++ (k ∷ rest) = cc in
-        found_under c k m e h (x ∷ []) (ap (λ (b : Bool). cond b (e.call ∷ []) []) t ∙ ap (λ (y : Call). y ∷ []) head) (more m tail)
-
-    go : (t : Bool) → concerns c e.call ≡ t → ((n : List Call) → calls_of c h ≡ n ++ (k ∷ rest) → Found c k n h) → Found c k mine (e ∷ h)
-    go true t more = own mine t (sym (calls_step c e h true t) ∙ q) more
-    go false t more = found_under c k mine e h [] (ap (λ (b : Bool). cond b (e.call ∷ []) []) t) (more mine (sym (calls_step c e h false t) ∙ q))
+found c h mine k rest e =
+    let s = source (λ (e : Event). cond (concerns c e.call) (e.call ∷ []) []) (one_call c) h mine k rest e in
+    record { spot = s.spot; place = s.same; call = let one = s.gives in grind arith }

@@ -1,6 +1,6 @@
 -- The race that refusal 6 names, found in the history: the ledger's accesses are those of the events of this phase, in order,
 -- and the first of them that passes a test stands in the history. Assumes nothing.
-use Rattle.std.proofs.Common.{◌≡◌, ℕ, Bool, true, false, cond, not, ◌&&◌, ◌||◌, eqb, leb, List, [], ◌∷◌, ◌++◌, Some, None, Option, sym, refl, ap, ◌∙◌, subst, inl, inr, ⊎_elim, arith}
+use Rattle.std.proofs.Common.{◌≡◌, ℕ, Bool, true, false, cond, not, ◌&&◌, ◌||◌, eqb, leb, ◌⊎◌, List, [], ◌∷◌, ◌++◌, Some, None, Option, sym, refl, ap, ◌∙◌, subst, inl, inr, ⊎_elim, arith}
 use Rattle.std.proofs.lemmas.List.Sums.{fold_push}
 use Rattle.std.proofs.lemmas.Option.{none-some, same_Some}
 use Rattle.std.specs.List.{flat_map}
@@ -24,7 +24,7 @@ use Rattle.rules.specs.Tables.{first, when, some_of}
 use Rattle.rules.proofs.Accesses.{some_of_append}
 use Rattle.rules.proofs.Fresh.{refusals_told}
 use Rattle.rules.proofs.Members.{In}
-use Rattle.rules.proofs.Splits.{along, joined_push}
+use Rattle.rules.proofs.Splits.{along, joined_push, OneOrNone, Source, source}
 
 -- ── this phase's accesses ──
 
@@ -105,38 +105,15 @@ first_access access core word named (a ∷ more) e = go (by_another access core 
         record { front = a ∷ r.front; back = r.back; stands = ap (λ (x : List Accessed). a ∷ x) r.stands; apart = r.apart; none = ap (λ (b : Bool). b || some_of (by_another access core word) r.front) t ∙ r.none }
 
 -- the event of an access in the history
-record EventOf (a : Accessed) (front : List Accessed) (h : History) : Type 0 where
-  before : History
-  event : Event
-  after : History
-  stands : h ≡ before ++ (event ∷ after)
-  is : accessed event ≡ Some a
-  same : gathered before ≡ front
-
-event_under : (a : Accessed) (front : List Accessed) (e : Event) (h : History) (own : List Accessed) → listed (accessed e) ≡ own → EventOf a front h → EventOf a (own ++ front) (e ∷ h)
-event_under a front e h own q p =
-    record { before = e ∷ p.before; event = p.event; after = p.after; stands = ap (λ (x : History). e ∷ x) p.stands; is = p.is; same = (λ i. q i ++ p.same i) }
-
-event_of : (h : History) (front : List Accessed) (a : Accessed) (back : List Accessed) → gathered h ≡ front ++ (a ∷ back) → EventOf a front h
-event_of [] front a back e = absurd (never front e)
+one_access : OneOrNone (λ (e : Event). listed (accessed e))
+one_access e = go (accessed e)
   where
-    never : (xs : List Accessed) → [] ≡ xs ++ (a ∷ back) → ⊥
-    never [] q = grind arith
-    never (x ∷ xs) q = grind arith
-event_of (e ∷ h) front a back q = go (accessed e) refl q (λ f s. event_of h f a back s)
-  where
-    own : (x : Accessed) (f : List Accessed) → accessed e ≡ Some x → x ∷ gathered h ≡ f ++ (a ∷ back) → ((g : List Accessed) → gathered h ≡ g ++ (a ∷ back) → EventOf a g h) → EventOf a f (e ∷ h)
-    own x [] t s later =
-        let eq : x ≡ a = cc in
-        record { before = []; event = e; after = h; stands = refl; is = t ∙ ap (λ (y : Accessed). Some y) eq; same = refl }
-    own x (y ∷ f) t s later =
-        let head : x ≡ y = cc in
-        let tail : gathered h ≡ f ++ (a ∷ back) = cc in
-        event_under a f e h (y ∷ []) (ap listed t ∙ ap (λ (k : Accessed). k ∷ []) head) (later f tail)
+    go : (o : Option Accessed) → (listed o ≡ []) ⊎ ((a : Accessed) × (listed o ≡ a ∷ []))
+    go None = inl refl
+    go (Some a) = inr (a, refl)
 
-    go : (o : Option Accessed) → accessed e ≡ o → listed (accessed e) ++ gathered h ≡ front ++ (a ∷ back) → ((f : List Accessed) → gathered h ≡ f ++ (a ∷ back) → EventOf a f h) → EventOf a front (e ∷ h)
-    go None t s later = event_under a front e h [] (ap listed t) (later front (ap (λ (k : Option Accessed). listed k ++ gathered h) (sym t) ∙ s))
-    go (Some x) t s later = own x front t (ap (λ (k : Option Accessed). listed k ++ gathered h) (sym t) ∙ s) later
+listed_tells : (o : Option Accessed) (a : Accessed) → listed o ≡ a ∷ [] → o ≡ Some a
+listed_tells o a e = grind arith
 
 -- a test of the accesses is one of their events
 some_gathered : (access : Access) (core word : ℕ) (h : History) → some_of (by_another access core word) (gathered h) ≡ some_of (other_access access core word) h
@@ -255,12 +232,12 @@ races_named r before e after named kind split refused =
       caller = f.caller;
       calls = f.calls;
       other = a.apart;
-      earlier = v.before;
-      event = v.event;
-      later = v.after;
-      stands = v.stands;
-      names = v.is;
-      earliest = sym (some_gathered kind f.caller.core f.caller.word v.before) ∙ (ap (some_of (by_another kind f.caller.core f.caller.word)) v.same ∙ a.none);
+      earlier = v.spot.before;
+      event = v.spot.event;
+      later = v.spot.after;
+      stands = v.spot.stands;
+      names = listed_tells (accessed v.spot.event) _ v.gives;
+      earliest = sym (some_gathered kind f.caller.core f.caller.word v.spot.before) ∙ (ap (some_of (by_another kind f.caller.core f.caller.word)) v.same ∙ a.none);
       loads_last = λ l. let p = f.loads_last l in (p.0, sym (some_gathered Store f.caller.core f.caller.word (this_phase before)) ∙ (ap (some_of (by_another Store f.caller.core f.caller.word)) (sym (accesses_told before)) ∙ none_found Store f.caller.core f.caller.word (ledger_of before).accesses p.1));
     }
   where
@@ -270,5 +247,5 @@ races_named r before e after named kind split refused =
     a : FirstAccess kind f.caller.core f.caller.word named (ledger_of before).accesses
     a = first_access kind f.caller.core f.caller.word named (ledger_of before).accesses f.found
 
-    v : EventOf (record { core = named; word = f.caller.word; access = kind }) a.front (this_phase before)
-    v = event_of (this_phase before) a.front (record { core = named; word = f.caller.word; access = kind }) a.back (sym (accesses_told before) ∙ a.stands)
+    v : Source (λ (e : Event). listed (accessed e)) a.front (record { core = named; word = f.caller.word; access = kind }) (this_phase before)
+    v = source (λ (e : Event). listed (accessed e)) one_access (this_phase before) a.front (record { core = named; word = f.caller.word; access = kind }) a.back (sym (accesses_told before) ∙ a.stands)

@@ -1,6 +1,6 @@
 -- Moments of a history as splits of it: two splits of one list, the last member that passes a test, a property along a
 -- history, and gatherings, which go through an append. Assumes nothing.
-use Rattle.std.proofs.Common.{◌≡◌, Bool, true, false, ◌||◌, List, [], ◌∷◌, ◌++◌, sym, refl, ap, ◌∙◌, subst, ⊎_elim, append_assoc, arith}
+use Rattle.std.proofs.Common.{◌≡◌, Bool, true, false, ◌||◌, ◌⊎◌, List, [], ◌∷◌, ◌++◌, sym, refl, ap, ◌∙◌, subst, inl, inr, ⊎_elim, append_assoc, arith}
 use Rattle.std.proofs.lemmas.List.Concat.{flat_map-append}
 use Rattle.std.specs.List.{flat_map}
 use Rattle.std.proofs.lemmas.List.{append-nil}
@@ -82,3 +82,39 @@ along {X} h P start keep first rest split = go [] first split start
 
 pub joined_push : {X Y : Type 0} (f : X → List Y) (xs : List X) (x : X) → flat_map f (xs ++ (x ∷ [])) ≡ flat_map f xs ++ f x
 joined_push f xs x = flat_map-append f xs (x ∷ []) ∙ ap (λ (k : List _). flat_map f xs ++ k) (append-nil (f x))
+
+-- each member gives one or none
+abbrev pub OneOrNone : {X Y : Type 0} → (X → List Y) → Type 0
+OneOrNone {X} {Y} f = (x : X) → (f x ≡ []) ⊎ ((y : Y) × (f x ≡ y ∷ []))
+
+-- the member that gives the one behind the front of a gathering
+pub record Source {X Y : Type 0} (f : X → List Y) (front : List Y) (y : Y) (h : List X) : Type 0 where
+  pub spot : Spot h
+  pub same : flat_map f spot.before ≡ front
+  pub gives : f spot.event ≡ y ∷ []
+
+source_under : {X Y : Type 0} (f : X → List Y) (x : X) (h : List X) (own front : List Y) (y : Y) → f x ≡ own → Source f front y h → Source f (own ++ front) y (x ∷ h)
+source_under f x h own front y q p =
+    record {
+      spot = record { before = x ∷ p.spot.before; event = p.spot.event; after = p.spot.after; stands = ap (λ (k : List _). x ∷ k) p.spot.stands };
+      same = (λ i. q i ++ p.same i);
+      gives = p.gives;
+    }
+
+pub source : {X Y : Type 0} (f : X → List Y) → OneOrNone f → (h : List X) (front : List Y) (y : Y) (back : List Y) → flat_map f h ≡ front ++ (y ∷ back) → Source f front y h
+source f few [] [] y back e = absurd cc
+source f few [] (z ∷ front) y back e = absurd cc
+source {X} {Y} f few (x ∷ h) front y back e = go (few x) (λ m s. source f few h m y back s)
+  where
+    given : (m : List Y) (z : Y) → f x ≡ z ∷ [] → z ∷ flat_map f h ≡ m ++ (y ∷ back) → ((n : List Y) → flat_map f h ≡ n ++ (y ∷ back) → Source f n y h) → Source f m y (x ∷ h)
+    given [] z t s more =
+        let eq : z ≡ y = cc in
+        record { spot = record { before = []; event = x; after = h; stands = refl }; same = refl; gives = t ∙ (λ i. eq i ∷ []) }
+    given (v ∷ m) z t s more =
+        let head : z ≡ v = cc in
+        let tail : flat_map f h ≡ m ++ (y ∷ back) = cc in
+        source_under f x h (v ∷ []) m y (t ∙ (λ i. head i ∷ [])) (more m tail)
+
+    go : ((f x ≡ []) ⊎ ((z : Y) × (f x ≡ z ∷ []))) → ((n : List Y) → flat_map f h ≡ n ++ (y ∷ back) → Source f n y h) → Source f front y (x ∷ h)
+    go (inl none) more = source_under f x h [] front y none (more front (ap (λ (k : List Y). k ++ flat_map f h) (sym none) ∙ e))
+    go (inr (z, one)) more = given front z one (ap (λ (k : List Y). k ++ flat_map f h) (sym one) ∙ e) more
