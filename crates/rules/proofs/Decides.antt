@@ -18,7 +18,7 @@ use Rattle.rules.specs.Steps.{step, outcome}
 use Rattle.rules.specs.Tables.{some_of}
 use Rattle.rules.proofs.Equal.{fresh_same, later}
 use Rattle.rules.proofs.Fresh.{reached, no_stale, loaded_tells}
-use Rattle.rules.proofs.Order.{access_of, access_below, store_accesses, access_concerns, Twins, before_ok, keeps_order}
+use Rattle.rules.proofs.Order.{access_of, used_by, access_below, store_accesses, access_concerns, Twins, before_ok, keeps_order}
 use Rattle.rules.proofs.Own.{found, own_stores, stores_own}
 use Rattle.rules.proofs.Settled.{fresh_alike}
 use Rattle.rules.proofs.Splits.{Spot, Last, last_of, none_at, tail_same}
@@ -55,6 +55,11 @@ twin r q o c below s t =
     let whole : calls_of c q.history ≡ mine ++ (s.event.call ∷ calls_of c s.after) = sym (o.calls c below) ∙ (ap (calls_of c) s.stands ∙ (flat_map-append _ s.before (s.event ∷ s.after) ∙ ap (λ (k : List Call). mine ++ k) here)) in
     let f = found c q.history mine s.event.call (calls_of c s.after) whole in
     (f.spot, record { place = sym f.place; call = sym f.call })
+
+-- an accepted access has its twin
+access_twin : (r q : Ran) → SameOrder r q → (s : Spot r.history) (a : Wanted) → access_of s.event.call ≡ Some a → (t : Spot q.history) × Twins a.core s t
+access_twin r q o s a uses =
+    twin r q o a.core (access_core r o.all_accepted s a uses) s (access_concerns s.event.call a uses)
 
 pub twins_back : (c : ℕ) {h k : History} (s : Spot h) (t : Spot k) → Twins c s t → Twins c t s
 twins_back c s t p = record { place = sym p.place; call = sym p.call }
@@ -120,7 +125,7 @@ module _ (r q : Ran) (o : SameOrder r q) where
 
     carried : (S' : Spot q.history) (s : Written) → store_of S'.event.call ≡ Some s → s.word ≡ a.word → (M' : History) → T'.before ≡ S'.before ++ (S'.event ∷ M') → Carried S' s
     carried S' s call here M' split =
-        let found_s = twin q r (same_order_back r q o) s.core (access_core q o.others_accepted S' (record { core = s.core; word = s.word }) (store_accesses S'.event.call s call)) S' (access_concerns S'.event.call (record { core = s.core; word = s.word }) (store_accesses S'.event.call s call)) in
+        let found_s = access_twin q r (same_order_back r q o) S' (used_by s) (store_accesses S'.event.call s call) in
         let k = keeps_order q r (same_order_back r q o) S' T' found_s.0 T s a call uses' here found_s.1 (twins_back a.core T T' twins) M' split in
         record { spot = found_s.0; twins_s = twins_back s.core S' found_s.0 found_s.1; between = k.0; first = k.1 }
 
@@ -156,7 +161,7 @@ module _ (r q : Ran) (o : SameOrder r q) where
         st = stores_tells a.word l.event (accepts_r S) l.passes
 
         found_s : (t : Spot q.history) × Twins st.store.core S t
-        found_s = twin r q o st.store.core (access_core r o.all_accepted S (record { core = st.store.core; word = st.store.word }) (store_accesses l.event.call st.store st.call)) S (access_concerns l.event.call (record { core = st.store.core; word = st.store.word }) (store_accesses l.event.call st.store st.call))
+        found_s = access_twin r q o S (used_by st.store) (store_accesses l.event.call st.store st.call)
 
         S' : Spot q.history
         S' = found_s.0
@@ -183,7 +188,7 @@ module _ (r q : Ran) (o : SameOrder r q) where
             let su = stores_tells a.word k.event (accepts_q U') k.passes in
             let c = carried U' su.store su.call su.here k.after upto in
             let u_uses = store_accesses k.event.call su.store su.call in
-            let s_first = keeps_order q r (same_order_back r q o) S' U' S c.spot st.store (record { core = su.store.core; word = su.store.word }) call' u_uses (st.here ∙ sym su.here) (twins_back st.store.core S S' found_s.1) (twins_back su.store.core c.spot U' c.twins_s) k.before refl in
+            let s_first = keeps_order q r (same_order_back r q o) S' U' S c.spot st.store (used_by su.store) call' u_uses (st.here ∙ sym su.here) (twins_back st.store.core S S' found_s.1) (twins_back su.store.core c.spot U' c.twins_s) k.before refl in
             let whole : l.before ++ (l.event ∷ l.after) ≡ l.before ++ (l.event ∷ (s_first.0 ++ (c.spot.event ∷ c.between))) = sym l.stands ∙ (c.first ∙ (ap (λ (x : History). x ++ (c.spot.event ∷ c.between)) s_first.1 ∙ append_assoc l.before (l.event ∷ s_first.0) (c.spot.event ∷ c.between))) in
             let tails = append_cancel_left l.before (l.event ∷ l.after) (l.event ∷ (s_first.0 ++ (c.spot.event ∷ c.between))) whole in
             let rest = tail_same l.event l.event l.after (s_first.0 ++ (c.spot.event ∷ c.between)) tails in
@@ -243,7 +248,7 @@ order_decides r q o before e after l split h =
     uses = ap access_of is_load
 
     found_t : (t : Spot q.history) × Twins l.core T t
-    found_t = twin r q o l.core (access_core r o.all_accepted T a uses) T (access_concerns e.call a uses)
+    found_t = access_twin r q o T a uses
 
     T' : Spot q.history
     T' = found_t.0

@@ -72,7 +72,11 @@ store_tells (call.Store core word value) s e =
     grind arith
 store_tells _ s e = grind arith
 
-pub store_accesses : (k : Call) (s : Written) → store_of k ≡ Some s → access_of k ≡ Some (record { core = s.core; word = s.word })
+-- the core and the word of a store
+abbrev pub used_by : Written → Wanted
+used_by s = record { core = s.core; word = s.word }
+
+pub store_accesses : (k : Call) (s : Written) → store_of k ≡ Some s → access_of k ≡ Some (used_by s)
 store_accesses k s e = ap access_of (store_tells k s e)
 
 -- an access is one of its core's calls
@@ -144,7 +148,7 @@ same_releasers r q order c lock below X Y place holds_x holds_y =
 
 module _ (r q : Ran) (order : SameOrder r q) (S T : Spot r.history) (S' T' : Spot q.history) (s : Written) (a : Wanted) (stores : store_of S.event.call ≡ Some s) (uses : access_of T.event.call ≡ Some a) (one_word : s.word ≡ a.word) (twin_s : Twins s.core S S') (twin_t : Twins a.core T T') (M : History) (first : T.before ≡ S.before ++ (S.event ∷ M)) where
   stores_concerns : concerns s.core S.event.call ≡ true
-  stores_concerns = access_concerns S.event.call (record { core = s.core; word = s.word }) (store_accesses S.event.call s stores)
+  stores_concerns = access_concerns S.event.call (used_by s) (store_accesses S.event.call s stores)
 
   -- of one core, its own calls would disagree
   not_one_core : s.core ≡ a.core → length (calls_of a.core T'.before) ≤ length (calls_of a.core S'.before) → ⊥
@@ -206,13 +210,13 @@ module _ (r q : Ran) (order : SameOrder r q) (S T : Spot r.history) (S' T' : Spo
 
     -- what the four accesses tell
     at_s : Accesses r.figures (ledger_of S.before) s.core s.word
-    at_s = accesses br (ledger_of S.before) S.event.call (record { core = s.core; word = s.word }) (store_accesses S.event.call s stores) (ok_r.passes S.before S.event S.after S.stands)
+    at_s = accesses br (ledger_of S.before) S.event.call (used_by s) (store_accesses S.event.call s stores) (ok_r.passes S.before S.event S.after S.stands)
 
     at_t : Accesses r.figures (ledger_of T.before) a.core a.word
     at_t = accesses br (ledger_of T.before) T.event.call a uses (ok_r.passes T.before T.event T.after T.stands)
 
     at_s' : Accesses q.figures (ledger_of S'.before) s.core s.word
-    at_s' = accesses bq (ledger_of S'.before) S'.event.call (record { core = s.core; word = s.word }) (store_accesses S'.event.call s (ap store_of (sym twin_s.call) ∙ stores)) (ok_q.passes S'.before S'.event S'.after S'.stands)
+    at_s' = accesses bq (ledger_of S'.before) S'.event.call (used_by s) (store_accesses S'.event.call s (ap store_of (sym twin_s.call) ∙ stores)) (ok_q.passes S'.before S'.event S'.after S'.stands)
 
     at_t' : Accesses q.figures (ledger_of T'.before) a.core a.word
     at_t' = accesses bq (ledger_of T'.before) T'.event.call a (ap access_of (sym twin_t.call) ∙ uses) (ok_q.passes T'.before T'.event T'.after T'.stands)
@@ -323,7 +327,7 @@ module _ (r q : Ran) (order : SameOrder r q) (S T : Spot r.history) (S' T' : Spo
       go (earlier M' e) = (M', e)
       go (same e x) =
           let one_call : S.event.call ≡ T.event.call = twin_s.call ∙ (ap (λ (k : Event). k.call) x ∙ sym twin_t.call) in
-          let both = same_Some (record { core = s.core; word = s.word }) a (sym (store_accesses S.event.call s stores) ∙ (ap access_of one_call ∙ uses)) in
+          let both = same_Some (used_by s) a (sym (store_accesses S.event.call s stores) ∙ (ap access_of one_call ∙ uses)) in
           let equal = ap (λ (h : History). length (calls_of a.core h)) e in
           absurd (not_one_core (ap (λ (k : Wanted). k.core) both) (omega arith))
       go (later M' e) =

@@ -93,8 +93,8 @@ cores_here lock k core e = cond-true (eqb k lock) (core ∷ []) [] (eq-eqb k loc
 cores_there : (lock k core : ℕ) → (lock ≡ k → ⊥) → cores_for lock (Some (record { core = core; lock = k })) ≡ []
 cores_there lock k core n = cond-false (eqb k lock) (core ∷ []) [] (ne_eqb k lock (λ e. n (sym e)))
 
-turn_like : (a b : Lock) (x u y v : List ℕ) → a ≡ b → x ≡ u → y ≡ v → Turn b u v → Turn a x y
-turn_like a b x u y v p q r t =
+turn_like : {a b : Lock} {x u y v : List ℕ} → a ≡ b → x ≡ u → y ≡ v → Turn b u v → Turn a x y
+turn_like {a} {b} {x} {u} {y} {v} p q r t =
     subst (λ (k : Lock). Turn k x y) (sym p) (subst (λ (k : List ℕ). Turn b k y) (sym q) (subst (λ (k : List ℕ). Turn b u k) (sym r) t))
 
 -- one accepted call
@@ -107,15 +107,15 @@ turn_entered l c lock got given by_holder t = go c refl
     go : (k : Call) → c ≡ k → Turn ((entered l k).locks lock) (got ++ cores_for lock (acquire_of k)) (given ++ cores_for lock (release_of k))
     go (call.Acquire core k) e =
         ⊎_elim
-        (λ p. turn_like _ _ _ _ _ _ (p.1 ∙ ap (λ (j : ℕ). acquired_by (l.locks j).holder (l.locks j) core) (sym p.0)) (ap (λ (j : List ℕ). got ++ j) (cores_here lock k core p.0)) (append-nil given)
+        (λ p. turn_like (p.1 ∙ ap (λ (j : ℕ). acquired_by (l.locks j).holder (l.locks j) core) (sym p.0)) (ap (λ (j : List ℕ). got ++ j) (cores_here lock k core p.0)) (append-nil given)
         (acquired_turn (l.locks lock).holder (l.locks lock) core got given refl t))
-        (λ p. turn_like _ _ _ _ _ _ p.1 (ap (λ (j : List ℕ). got ++ j) (cores_there lock k core p.0) ∙ append-nil got) (append-nil given) t)
+        (λ p. turn_like p.1 (ap (λ (j : List ℕ). got ++ j) (cores_there lock k core p.0) ∙ append-nil got) (append-nil given) t)
         (upd_cases l.locks k (acquired_by (l.locks k).holder (l.locks k) core) lock)
     go (call.Release core k) e =
         ⊎_elim
-        (λ p. turn_like _ _ _ _ _ _ (p.1 ∙ ap (λ (j : ℕ). released_to (l.locks j).queue core) (sym p.0)) (append-nil got) (ap (λ (j : List ℕ). given ++ j) (cores_here lock k core p.0))
+        (λ p. turn_like (p.1 ∙ ap (λ (j : ℕ). released_to (l.locks j).queue core) (sym p.0)) (append-nil got) (ap (λ (j : List ℕ). given ++ j) (cores_here lock k core p.0))
         (released_turn (l.locks lock).queue (l.locks lock) core got given refl (ap (λ (j : ℕ). (l.locks j).holder) p.0 ∙ by_holder core k e) t))
-        (λ p. turn_like _ _ _ _ _ _ p.1 (append-nil got) (ap (λ (j : List ℕ). given ++ j) (cores_there lock k core p.0) ∙ append-nil given) t)
+        (λ p. turn_like p.1 (append-nil got) (ap (λ (j : List ℕ). given ++ j) (cores_there lock k core p.0) ∙ append-nil given) t)
         (upd_cases l.locks k (released_to (l.locks k).queue core) lock)
     go (call.Phase plan) e = record { turns = unmoved.turns; nobody = t.nobody }
     go _ e = unmoved
@@ -129,7 +129,7 @@ turn b h ok lock first rest split = along h (λ p. Turn ((ledger_of p).locks loc
     keep : (before : History) (e : Event) (after : History) → h ≡ before ++ (e ∷ after) → Turn ((ledger_of before).locks lock) (acquirers lock before) (releasers lock before) → Turn ((ledger_of (before ++ (e ∷ []))).locks lock) (acquirers lock (before ++ (e ∷ []))) (releasers lock (before ++ (e ∷ [])))
     keep before e after at t =
         let a = ok.accepts before e after at in
-        turn_like _ _ _ _ _ _
+        turn_like
         (ap (λ (l : Ledger). l.locks lock) (ledger_push before e a))
         (joined_push _ before e ∙ ap (λ (o : Option Asked). acquirers lock before ++ cores_for lock o) (of_unrefused acquire_of e a))
         (joined_push _ before e ∙ ap (λ (o : Option Asked). releasers lock before ++ cores_for lock o) (of_unrefused release_of e a))

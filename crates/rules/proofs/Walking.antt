@@ -15,7 +15,7 @@ use Rattle.word.specs.Lawful.{Stores, mark_of}
 use Rattle.word.specs.Marks.{number}
 use Rattle.word.specs.declared.word.Word.{Word}
 use Rattle.word.proofs.Marks.{stores_lawful, number_mark_at}
-use Rattle.rules.specs.Histories.{accepted, refused_with, of_accepted, store_of, Written, ToldStore, Tracked, track_by, tracked, last_store, Fresh, entered_by, ledger_of}
+use Rattle.rules.specs.Histories.{accepted, refused_with, of_accepted, store_of, stored, Written, ToldStore, Tracked, track_by, tracked, last_store, Fresh, entered_by, ledger_of}
 use Rattle.rules.specs.Refusals.{refusal}
 use Rattle.rules.specs.Runs.{Event, History, Chain}
 use Rattle.rules.specs.State.{Ledger, State, Setting}
@@ -56,6 +56,19 @@ module _ (b : Setting) (fits : Fits b) (old : ℕ → Word) where
     abbrev l : Ledger
     l = s.ledger
 
+    -- an event that is no accepted store moves no word
+    quiet_told : (k : Ledger) → stored e ≡ None → k ≡ ledger_of (h ++ (e ∷ [])) → ((c : ℕ) → l.counts c ≡ k.counts c) → Told b old now k (h ++ (e ∷ []))
+    quiet_told k none ledger kept =
+        record {
+          ledger = ledger;
+          counts = λ w c. ap (λ (t : Tracked). t.counts c) (unmoved w) ∙ (m.told.counts w c ∙ kept c);
+          fresh = λ w p. subst (λ (t : Tracked). Fresh t.last (old w) (now w)) (sym (unmoved w)) (m.told.fresh w p);
+          lawful = λ w t p. let old_one = m.told.lawful w t (ap (λ (k : Tracked). k.last) (sym (unmoved w)) ∙ p) in (old_one.0, rw (sym (kept t.core)) old_one.1);
+        }
+      where
+        unmoved : (w : ℕ) → tracked w (h ++ (e ∷ [])) ≡ tracked w h
+        unmoved w = fold_push _ _ h e ∙ ap (λ (o : Option Written). track_by w o (tracked w h)) none
+
     refused_moment : (r : Refusal) → e.answer ≡ Err r → ((c w : ℕ) → g' c w ≡ g c w) → Moment (h ++ (e ∷ [])) s g'
     refused_moment r a same =
         record {
@@ -71,17 +84,8 @@ module _ (b : Setting) (fits : Fits b) (old : ℕ → Word) where
                     };
                 long = m.good.long;
               };
-          told =
-              record {
-                ledger = m.told.ledger ∙ sym (fold_push entered_by _ h e ∙ ap (λ (x : Result Answer Refusal). entered_by (ledger_of h) (record { call = e.call; answer = x })) a);
-                counts = λ w c. ap (λ (t : Tracked). t.counts c) (unmoved w) ∙ m.told.counts w c;
-                fresh = λ w p. subst (λ (t : Tracked). Fresh t.last (old w) (now w)) (sym (unmoved w)) (m.told.fresh w p);
-                lawful = λ w t p. m.told.lawful w t (ap (λ (k : Tracked). k.last) (sym (unmoved w)) ∙ p);
-              };
+          told = quiet_told l (of_refused store_of e r a) (m.told.ledger ∙ sym (fold_push entered_by _ h e ∙ ap (λ (x : Result Answer Refusal). entered_by (ledger_of h) (record { call = e.call; answer = x })) a)) (λ c. refl);
         }
-      where
-        unmoved : (w : ℕ) → tracked w (h ++ (e ∷ [])) ≡ tracked w h
-        unmoved w = fold_push _ _ h e ∙ ap (λ (o : Option Written). track_by w o (tracked w h)) (of_refused store_of e r a)
 
     -- the ledger after an accepted call is the history's
     entered_told : refused_with e.answer ≡ None → entered l e.call ≡ ledger_of (h ++ (e ∷ []))
@@ -92,16 +96,8 @@ module _ (b : Setting) (fits : Fits b) (old : ℕ → Word) where
     -- an accepted call that is no store moves no word
     plain_told : store_of e.call ≡ None → refused_with e.answer ≡ None → Told b old now (entered l e.call) (h ++ (e ∷ []))
     plain_told none a =
-        record {
-          ledger = entered_told a;
-          counts = λ w c. ap (λ (t : Tracked). t.counts c) (unmoved w) ∙ (m.told.counts w c ∙ counts_kept e.call none c);
-          fresh = λ w p. subst (λ (t : Tracked). Fresh t.last (old w) (now w)) (sym (unmoved w)) (m.told.fresh w p);
-          lawful = λ w t p. let old_one = m.told.lawful w t (ap (λ (k : Tracked). k.last) (sym (unmoved w)) ∙ p) in (old_one.0, rw (sym (counts_kept e.call none t.core)) old_one.1);
-        }
+        quiet_told (entered l e.call) (of_unrefused store_of e a ∙ none) (entered_told a) (counts_kept e.call none)
       where
-        unmoved : (w : ℕ) → tracked w (h ++ (e ∷ [])) ≡ tracked w h
-        unmoved w = fold_push _ _ h e ∙ ap (λ (o : Option Written). track_by w o (tracked w h)) (of_unrefused store_of e a ∙ none)
-
         counts_kept : (c : Call) → store_of c ≡ None → (k : ℕ) → l.counts k ≡ (entered l c).counts k
         counts_kept (call.Store core word value) p k = absurd cc
         counts_kept _ p k = refl
