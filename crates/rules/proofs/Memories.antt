@@ -89,17 +89,15 @@ module _ (f : Five) (now : ℕ → Word) (stale : ℕ → ℕ → Type 0) where
   write_back_sound m c i s = go (m.copies c i) refl
     where
       go : (k : Copy) → m.copies c i ≡ k → Sound f now stale (write_back_by k m c i)
-      go invalid e = s
-      go (valid v y) e = s
       go (registered v y) e = written_sound m c i v y e s
+      go _ e = s
 
   pub write_back_clears : (m : Memory) (c i : ℕ) → Sound f now stale m → Unregistered (write_back m c i) c i
   write_back_clears m c i s = go (m.copies c i) refl
     where
       go : (k : Copy) → m.copies c i ≡ k → Unregistered (write_back_by k m c i) c i
-      go invalid e w x h = let z : ◌≡◌ {A = Copy} invalid (registered w x) = sym e ∙ h in grind arith
-      go (valid v y) e w x h = let z : ◌≡◌ {A = Copy} (valid v y) (registered w x) = sym e ∙ h in grind arith
       go (registered v y) e w x h = written_unregistered m c i v y e s w x h
+      go _ e w x h = cc (sym e ∙ h)
 
   -- a slot without a registered copy takes any copy that is not registered, if a valid one is as its word is now
   module _ (m : Memory) (c i : ℕ) (free : Unregistered m c i) (s : Sound f now stale m) where

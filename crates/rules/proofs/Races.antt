@@ -171,16 +171,15 @@ race_tells access None named kind e = grind arith
 race_tells access (Some c) named kind e = (cc, cc)
 
 load_found : (m : Mode) (accesses : List Accessed) (core word named : ℕ) (kind : Access) → load_race m accesses core word ≡ Some (Race named kind) → FoundRace accesses (call.Load core word) named kind
-load_found read_only accesses core word named kind e = grind arith
-load_found (locked lock) accesses core word named kind e = grind arith
 load_found written accesses core word named kind e =
     let t = race_tells Store (earliest Store core word accesses) named kind e in
     record {
       caller = record { core = core; word = word; access = Load };
       calls = refl;
       found = subst (λ (k : Access). earliest k core word accesses ≡ Some named) t.1 t.0;
-      loads_last = λ l. let z : ◌≡◌ {A = Access} Store Load = t.1 ∙ l in grind arith;
+      loads_last = λ l. absurd (cc (t.1 ∙ l));
     }
+load_found _ accesses core word named kind e = grind arith
 
 store_found : (m : Mode) (accesses : List Accessed) (core word value named : ℕ) (kind : Access) → store_race m accesses core word ≡ Some (Race named kind) → FoundRace accesses (call.Store core word value) named kind
 store_found read_only accesses core word value named kind e = grind arith
@@ -195,7 +194,7 @@ store_found written accesses core word value named kind e = go (earliest Store c
           caller = record { core = core; word = word; access = Store };
           calls = refl;
           found = subst (λ (x : Access). earliest x core word accesses ≡ Some named) what (s ∙ ap (λ (x : ℕ). Some x) who);
-          loads_last = λ l. let z : ◌≡◌ {A = Access} Store Load = what ∙ l in grind arith;
+          loads_last = λ l. absurd (cc (what ∙ l));
         }
     go None s k =
         let t = race_tells Load (earliest Load core word accesses) named kind (alone (as_race Load (earliest Load core word accesses)) (Race named kind) k) in

@@ -3,6 +3,7 @@
 -- turn, and after it no word has an owner. Assumes nothing.
 use Rattle.std.proofs.Common.{◌≡◌, ℕ, ◌<◌, Bool, true, false, cond, eqb, ◌⊎◌, length, Some, None, Option, sym, refl, ap, ◌∙◌, subst, inl, inr, ⊎_elim, arith, length-set}
 use Rattle.std.proofs.lemmas.Bool.{eq-eqb, eqb-true, cond-true, cond-false}
+use Rattle.std.proofs.lemmas.Bool.Decides.{nat_tests}
 use Rattle.call.specs.Figures.{Five, slot_of}
 use Rattle.word.specs.declared.word.Word.{Word}
 use Rattle.rules.specs.Effects as effect
@@ -20,9 +21,8 @@ pub write_back_length : (m : Memory) (c i : ℕ) → SameLength m (write_back m 
 write_back_length m c i = go (m.copies c i)
   where
     go : (k : Copy) → SameLength m (write_back_by k m c i)
-    go invalid = refl
-    go (valid w x) = refl
     go (registered w x) = length-set m.page w x
+    go _ = refl
 
 -- a copy of the word itself
 pub of_word_same : (w : ℕ) (k : Copy) (x : Word) → k ≡ registered w x → of_word w k ≡ registered w x
@@ -30,14 +30,10 @@ of_word_same w k x e = ap (of_word w) e ∙ cond-true (eqb w w) (registered w x)
 
 -- what a look-up finds is in the slot
 pub found_registered : (w v : ℕ) (k : Copy) (x : Word) → of_word w k ≡ registered v x → k ≡ registered w x
-found_registered w v invalid x e = grind arith
-found_registered w v (valid u y) x e = grind (arith, cond-true (eqb u w) (valid u y) invalid, cond-false (eqb u w) (valid u y) invalid)
-found_registered w v (registered u y) x e = grind (arith, eqb-true u w, cond-true (eqb u w) (registered u y) invalid, cond-false (eqb u w) (registered u y) invalid)
+found_registered w v k x e = grind (arith, nat_tests)
 
 pub found_valid : (w v : ℕ) (k : Copy) (x : Word) → of_word w k ≡ valid v x → k ≡ valid w x
-found_valid w v invalid x e = grind arith
-found_valid w v (valid u y) x e = grind (arith, eqb-true u w, cond-true (eqb u w) (valid u y) invalid, cond-false (eqb u w) (valid u y) invalid)
-found_valid w v (registered u y) x e = grind (arith, cond-true (eqb u w) (registered u y) invalid, cond-false (eqb u w) (registered u y) invalid)
+found_valid w v k x e = grind (arith, nat_tests)
 
 module _ (f : Five) (now : ℕ → Word) (stale : ℕ → ℕ → Type 0) where
   -- a load gives the word as it is now, and leaves all sound
@@ -114,8 +110,7 @@ module _ (f : Five) (now : ℕ → Word) (stale worse : ℕ → ℕ → Type 0) 
       taken d true e own =
           let same = eqb-true d core e in
           let mine : n.copies core (slot_of f word) ≡ registered word (now word) = ap (λ (k : ℕ). n.copies k (slot_of f word)) (sym same) ∙ s.owned word d own in
-          let no_way : ⊥ = free word (now word) mine in
-          absurd no_way
+          absurd (free word (now word) mine)
       taken d false e own =
           let still_free : Unregistered (with_copy n d (slot_of f word) invalid) core (slot_of f word) = λ w y h. grind (arith, upd2_cases n.copies d (slot_of f word) invalid core (slot_of f word), free w y) in
           claimed_keeps m (with_copy n d (slot_of f word) invalid) 2 within len still_free (loose_taken f now stale word n d own s)
@@ -145,7 +140,6 @@ module _ (f : Five) (now : ℕ → Word) (stale worse : ℕ → ℕ → Type 0) 
   store_keeps m within s = go (copy_of f m core word) refl
     where
       go : (k : Copy) → copy_of f m core word ≡ k → Keeps f (upd now word x) worse m (store_row k f m core word x)
-      go invalid e = claim_keeps m within s
-      go (valid v y) e = claim_keeps m within s
       go (registered v y) e =
           record { sound = replaced_keeps m y (found_registered word v (m.copies core (slot_of f word)) y e) s; long = refl }
+      go _ e = claim_keeps m within s
