@@ -3,6 +3,7 @@
 use Rattle.std.proofs.Common.{◌≡◌, ℕ, Bool, true, false, cond, not, ◌&&◌, ◌||◌, eqb, ◌⊎◌, List, [], ◌∷◌, ◌++◌, Some, None, Option, sym, refl, ap, ◌∙◌, inl, inr, ⊎_elim, arith}
 use mathlib.Core.Bool.{or_assoc}
 use Rattle.std.proofs.Math.Bool.{or-false}
+use Rattle.std.proofs.lemmas.Bool.Decides.{nat_tests}
 use Rattle.std.proofs.lemmas.Bool.{eqb-true, eq-eqb, and_parts, or_cases, or_left, or_right, cases_Bool, both_ways, and_from, not_from_false}
 use Rattle.call.specs.declared.refusal.Access.{Access}
 use Rattle.call.specs.declared.refusal.Access.TheVariants.{Load, Store}
@@ -17,8 +18,7 @@ first_none None rs e = (refl, e)
 first_none (Some x) rs e = absurd cc
 
 pub when_none : {X : Type 0} (t : Bool) (x : X) → when t x ≡ None → t ≡ false
-when_none true x e = absurd cc
-when_none false x e = refl
+when_none t x e = grind arith
 
 -- ── a test on some member ──
 
@@ -64,24 +64,9 @@ stored_after accesses core word d w e =
 -- ── races ──
 
 pub no_race : (access : Access) (o : Option ℕ) → as_race access o ≡ None → o ≡ None
-no_race access None e = refl
-no_race access (Some c) e = absurd cc
+no_race access o e = grind arith
 
 -- where no other core's store is found, each store is the core's own
 pub only_own : (accesses : List Accessed) (core word d : ℕ) → earliest Store core word accesses ≡ None → stored_in accesses d word ≡ true → d ≡ core
 only_own [] core word d none e = absurd (both_ways false refl e)
-only_own (a ∷ more) core word d none e =
-    go (by_another Store core word a) refl none (λ k p. only_own more core word d k p)
-  where
-    here : by_another Store core word a ≡ false → store_by d word a ≡ true → d ≡ core
-    here free h =
-        let parts = and_parts (same_access a.access Store) (eqb a.word word && eqb a.core d) h in
-        let inner = and_parts (eqb a.word word) (eqb a.core d) parts.1 in
-        let who = eqb-true a.core d inner.1 in
-        ⊎_elim (λ s. sym who ∙ eqb-true a.core core s)
-        (λ n. let other : by_another Store core word a ≡ true = and_from (same_access a.access Store) (eqb a.word word && not (eqb a.core core)) parts.0 (and_from (eqb a.word word) (not (eqb a.core core)) inner.0 (not_from_false (eqb a.core core) n)) in absurd (both_ways (by_another Store core word a) free other))
-        (cases_Bool (eqb a.core core))
-
-    go : (t : Bool) → by_another Store core word a ≡ t → cond t (Some a.core) (earliest Store core word more) ≡ None → (earliest Store core word more ≡ None → stored_in more d word ≡ true → d ≡ core) → d ≡ core
-    go true h k later = absurd cc
-    go false h k later = ⊎_elim (λ p. here h p) (λ p. later k p) (or_cases (store_by d word a) (stored_in more d word) e)
+only_own (a ∷ more) core word d none e = grind (arith, nat_tests, only_own more core word d)

@@ -220,7 +220,7 @@ load_gives q t w c a = go (refusal b p.state.ledger (call.Load w.core w.word)) r
     by_rule = p.chain.0 ∙ ap (λ (k : Call). (step (setting q.figures q.page) p.sets p.state k).answer) c
 
     go : (o : Option Refusal) → refusal b p.state.ledger (call.Load w.core w.word) ≡ o → t.event.answer ≡ (outcome o (setting q.figures q.page) p.sets p.state (call.Load w.core w.word)).answer → (x : Word) × (loaded t.event ≡ Some (record { core = w.core; word = w.word; given = x }))
-    go (Some r) e k = let z : None ≡ Some r = sym a ∙ ap refused_with k in grind arith
+    go (Some r) e k = absurd (cc (sym a ∙ ap refused_with k))
     go None e k = (_, (λ i. given_by (k i) (load_of (c i))))
 
 pub order_decides : (r q : Ran) → OrderDecides r q

@@ -156,7 +156,7 @@ module _ (b : Setting) (fits : Fits b) (now : ℕ → Word) (s : State) (g g' : 
         covered_after written e same w d lock m st =
             ⊎_elim
             (λ old. guarded_grows (l.locks lock) g g' w (same_grows g g' same) (good.phased.covered w d lock m old))
-            (λ new. let z : ◌≡◌ {A = Mode} written (locked lock) = sym e ∙ (ap (mode_of f l.plan) (sym new.0) ∙ m) in let no_way : ⊥ = grind arith in absurd no_way)
+            (λ new. absurd (cc (sym e ∙ (ap (mode_of f l.plan) (sym new.0) ∙ m))))
             (stored_after l.accesses core word d w st)
         covered_after (locked k) e (h, p, same) w d lock m st =
             ⊎_elim

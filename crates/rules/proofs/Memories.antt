@@ -183,7 +183,7 @@ module _ (f : Five) (now : ℕ → Word) (stale : ℕ → ℕ → Type 0) (word 
     pub stored_seen : (worse : ℕ → ℕ → Type 0) → ((c w : ℕ) → stale c w → worse c w) → ((c : ℕ) → (c ≡ core → ⊥) → worse c word) → ((d w : ℕ) (y : Word) → m.copies d (slot_of f w) ≡ valid w y → (y ≡ now w) ⊎ stale d w) → (d w : ℕ) (y : Word) → stored_copies d (slot_of f w) ≡ valid w y → (y ≡ upd now word x w) ⊎ worse d w
     stored_seen worse more others seen d w y e =
         ⊎_elim
-        (λ p. let z : registered word x ≡ valid w y = sym p.2 ∙ e in grind arith)
+        (λ p. absurd (cc (sym p.2 ∙ e)))
         (λ p. ⊎_elim
         (λ q. inr (let away : d ≡ core → ⊥ = λ h. p.0 h (ap (slot_of f) q.0) in grind (arith, others d away, q.0)))
         (λ q. ⊎_elim (λ r. inl (r ∙ sym q.1)) (λ r. inr (more d w r)) (seen d w y (sym p.1 ∙ e)))

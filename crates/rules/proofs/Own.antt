@@ -2,6 +2,7 @@
 -- stores it has made, and the plan in force. And the call at a place among them stands in the history. Assumes nothing.
 use Rattle.std.proofs.Common.{◌≡◌, ℕ, ◌+◌, Bool, true, false, cond, not, eqb, List, [], ◌∷◌, ◌++◌, is_some, Some, None, fold, Option, sym, refl, ap, ◌∙◌, inl, inr, ⊎_elim, zero-add, arith}
 use Rattle.std.specs.List.{flat_map}
+use Rattle.std.proofs.lemmas.Bool.Decides.{nat_tests}
 use Rattle.std.proofs.lemmas.Bool.{eqb-true, eqb-false, cond-true, cond-false, cases_Bool, or_parts}
 use Rattle.call.specs.Calls.{caller_of}
 use Rattle.call.specs.declared.call.Call.{Call}
@@ -84,7 +85,7 @@ quiet_store c _ n = refl
 tracked_one : (w c : ℕ) (o : Option Written) (t : Tracked) → (track_by w o t).counts c ≡ t.counts c + by_core c o
 tracked_one w c None t = omega arith
 tracked_one w c (Some s) t =
-    grind (arith, upd_cases t.counts s.core (t.counts s.core + 1) c, eqb-true s.core c, eqb-false s.core c, cond-true {A = ℕ} (eqb s.core c) 1 0, cond-false {A = ℕ} (eqb s.core c) 1 0, cases_Bool (eqb s.core c))
+    grind (arith, nat_tests, upd_cases t.counts s.core (t.counts s.core + 1) c)
 
 stores_on : (w c : ℕ) (t : Tracked) (h : History) → AllAccepted h → (fold (λ k e. track_by w (stored e) k) t h).counts c ≡ t.counts c + own_stores c (calls_of c h)
 stores_on w c t [] ok = omega arith
@@ -116,8 +117,7 @@ abbrev pub plans_of : History → List ℕ
 plans_of h = flat_map (λ e. plans_in (plan_of e.call)) h
 
 no_plan : (o : Option ℕ) → is_some o ≡ false → plans_in o ≡ []
-no_plan None e = refl
-no_plan (Some p) e = grind arith
+no_plan o e = grind arith
 
 pub plans_own : (c : ℕ) (h : History) → plans_of h ≡ plans (calls_of c h)
 plans_own c [] = refl

@@ -92,7 +92,7 @@ module _ (f : Five) (now : ℕ → Word) (stale : ℕ → ℕ → Type 0) where
       go invalid e = record { sound = s; long = refl }
       go (valid v x) e =
           let here = found_valid word v (m.copies core (slot_of f word)) x e in
-          let free : Unregistered m core (slot_of f word) = λ w y h. let z : valid word x ≡ registered w y = sym here ∙ h in grind arith in
+          let free : Unregistered m core (slot_of f word) = λ w y h. cc (sym here ∙ h) in
           record { sound = dropped_sound f now stale m core (slot_of f word) free s; long = refl }
       go (registered v x) e =
           record { sound = dropped_sound f now stale (write_back m core (slot_of f word)) core (slot_of f word) (write_back_clears f now stale m core (slot_of f word) s) (write_back_sound f now stale m core (slot_of f word) s); long = write_back_length m core (slot_of f word) }

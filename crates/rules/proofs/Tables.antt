@@ -1,6 +1,6 @@
 -- A table changed at one place: the two cases of a look-up. Assumes nothing.
 use Rattle.std.proofs.Common.{◌≡◌, ℕ, Bool, true, false, cond, ◌&&◌, eqb, ◌⊎◌, refl, inl, inr, ⊎_elim, arith}
-use Rattle.std.proofs.lemmas.Bool.{eqb-true, eqb-false, and_parts, eq-eqb, cond-true, cond-false}
+use Rattle.std.proofs.lemmas.Bool.{eqb-true, eqb-false, and_parts, eq-eqb, cond-true, cond-false, cases_Bool}
 use Rattle.std.proofs.lemmas.Bool.Decides.{eqb_tells}
 use Rattle.rules.specs.Tables.{upd, upd2}
 
@@ -12,10 +12,8 @@ upd_cases f k x j =
 
 pub upd2_cases : {X : Type 0} (f : ℕ → ℕ → X) (r k : ℕ) (x : X) (q j : ℕ) → ((q ≡ r) × (j ≡ k) × (upd2 f r k x q j ≡ x)) ⊎ (((q ≡ r) → (j ≡ k) → ⊥) × (upd2 f r k x q j ≡ f q j))
 unfolding upd2
-upd2_cases f r k x q j = go (eqb q r && eqb j k) refl
-  where
-    go : (t : Bool) → (eqb q r && eqb j k) ≡ t → ((q ≡ r) × (j ≡ k) × (cond (eqb q r && eqb j k) x (f q j) ≡ x)) ⊎ (((q ≡ r) → (j ≡ k) → ⊥) × (cond (eqb q r && eqb j k) x (f q j) ≡ f q j))
-    go true e =
-        let parts = and_parts (eqb q r) (eqb j k) e in
-        inl (eqb-true q r parts.0, eqb-true j k parts.1, cond-true (eqb q r && eqb j k) x (f q j) e)
-    go false e = inr ((λ a b. grind (arith, eq-eqb q r a, eq-eqb j k b)), cond-false (eqb q r && eqb j k) x (f q j) e)
+upd2_cases f r k x q j =
+    ⊎_elim
+    (λ t. let both = and_parts _ _ t in inl (eqb-true q r both.0, eqb-true j k both.1, cond-true _ x (f q j) t))
+    (λ t. inr ((λ a b. grind (arith, eq-eqb q r a, eq-eqb j k b)), cond-false _ x (f q j) t))
+    (cases_Bool (eqb q r && eqb j k))

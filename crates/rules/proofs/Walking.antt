@@ -115,6 +115,9 @@ module _ (b : Setting) (fits : Fits b) (old : ℕ → Word) where
         new : Word
         new = record { value = value; mark = next_mark l core }
 
+        told : ℕ → Option ToldStore
+        told w = Some (record { core = core; count = (tracked w h).counts core + 1; value = value })
+
         moved : (w : ℕ) → tracked w (h ++ (e ∷ [])) ≡ track_by w (Some (record { core = core; word = word; value = value })) (tracked w h)
         moved w =
             fold_push _ _ h e
@@ -124,13 +127,13 @@ module _ (b : Setting) (fits : Fits b) (old : ℕ → Word) where
         counts_moved w c =
             grind (arith, upd_cases (tracked w h).counts core ((tracked w h).counts core + 1) c, upd_cases l.counts core (l.counts core + 1) c, m.told.counts w c, m.told.counts w core)
 
-        lawful_moved : (w : ℕ) (t : ToldStore) → cond (eqb word w) (Some (record { core = core; count = (tracked w h).counts core + 1; value = value })) (last_store w h) ≡ Some t → Stores t.core t.count × (t.count ≤ upd l.counts core (l.counts core + 1) t.core)
+        lawful_moved : (w : ℕ) (t : ToldStore) → cond (eqb word w) (told w) (last_store w h) ≡ Some t → Stores t.core t.count × (t.count ≤ upd l.counts core (l.counts core + 1) t.core)
         lawful_moved w t p = go (eqb word w) p
           where
             alike : (tracked w h).counts core ≡ l.counts core
             alike = m.told.counts w core
 
-            go : (v : Bool) → cond v (Some (record { core = core; count = (tracked w h).counts core + 1; value = value })) (last_store w h) ≡ Some t → Stores t.core t.count × (t.count ≤ upd l.counts core (l.counts core + 1) t.core)
+            go : (v : Bool) → cond v (told w) (last_store w h) ≡ Some t → Stores t.core t.count × (t.count ≤ upd l.counts core (l.counts core + 1) t.core)
             go true q =
                 let same = same_Some _ t q in
                 let who : core ≡ t.core = ap (λ (k : ToldStore). k.core) same in
@@ -141,7 +144,7 @@ module _ (b : Setting) (fits : Fits b) (old : ℕ → Word) where
                 let few = old_one.1 in
                 (old_one.0, grind (arith, upd_cases l.counts core (l.counts core + 1) t.core, few))
 
-        fresh_moved : (w : ℕ) → w < b.size → Fresh (cond (eqb word w) (Some (record { core = core; count = (tracked w h).counts core + 1; value = value })) (last_store w h)) (old w) (upd now word new w)
+        fresh_moved : (w : ℕ) → w < b.size → Fresh (cond (eqb word w) (told w) (last_store w h)) (old w) (upd now word new w)
         fresh_moved w p = go (eqb word w) refl
           where
             counted_alike : (tracked w h).counts core + 1 ≡ l.counts core + 1
@@ -152,7 +155,7 @@ module _ (b : Setting) (fits : Fits b) (old : ℕ → Word) where
                 number_mark_at (mark_of core (l.counts core + 1)) (stores_lawful core (l.counts core + 1) (in_cores, omega arith, omega arith))
                 ∙ ap (mark_of core) (sym counted_alike)
 
-            go : (t : Bool) → eqb word w ≡ t → Fresh (cond t (Some (record { core = core; count = (tracked w h).counts core + 1; value = value })) (last_store w h)) (old w) (upd now word new w)
+            go : (t : Bool) → eqb word w ≡ t → Fresh (cond t (told w) (last_store w h)) (old w) (upd now word new w)
             go true q =
                 let here : upd now word new w ≡ new = ⊎_elim (λ r. r.1) (λ r. absurd (r.0 (sym (eqb-true word w q)))) (upd_cases now word new w) in
                 subst (λ (x : Word). (x.value ≡ value) × (number x.mark ≡ mark_of core ((tracked w h).counts core + 1))) (sym here) (refl, mark_is)
