@@ -27,6 +27,7 @@ use Rattle.rules.proofs.Own.{AllAccepted, all_accepted, accepted_front, own_rele
 use Rattle.rules.proofs.Splits.{Spot, Placed, earlier, same, later, two_splits}
 use Rattle.rules.proofs.Turns.{Legal, legal, turn, line}
 use Rattle.rules.proofs.Unrefused.{load_passes, store_passes}
+use Rattle.rules.proofs.Walking.{entered_accepted}
 
 -- ── accesses ──
 
@@ -252,8 +253,7 @@ module _ (r q : Ran) (order : SameOrder r q) (S T : Spot r.history) (S' T' : Spo
 
         entered_here : entered_by (ledger_of S.before) S.event ≡ entered (ledger_of S.before) (call.Store s.core s.word s.value)
         entered_here =
-            cond-true (accepted S.event) (entered (ledger_of S.before) S.event.call) (ledger_of S.before) (ap (λ (o : Option Refusal). not (is_some o)) (ok_r.accepts S.before S.event S.after S.stands))
-            ∙ ap (entered (ledger_of S.before)) k
+            entered_accepted (ledger_of S.before) S.event (ok_r.accepts S.before S.event S.after S.stands) ∙ ap (entered (ledger_of S.before)) k
 
         in_s : stored_in (entered_by (ledger_of S.before) S.event).accesses s.core a.word ≡ true
         in_s =

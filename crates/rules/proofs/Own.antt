@@ -15,7 +15,7 @@ use Rattle.rules.specs.Steps.{entered}
 use Rattle.rules.proofs.Holders.{times, times_append}
 use Rattle.rules.proofs.Splits.{Spot, OneOrNone, source}
 use Rattle.rules.proofs.Tables.{upd_cases}
-use Rattle.rules.proofs.Walking.{of_unrefused}
+use Rattle.rules.proofs.Walking.{of_unrefused, entered_accepted}
 
 -- every call of the history was accepted
 abbrev pub AllAccepted : History → Type 0
@@ -144,7 +144,7 @@ last_append p (x ∷ xs) ys = last_append x xs ys
 plan_on : (l : Ledger) (h : History) → AllAccepted h → (fold entered_by l h).plan ≡ last_plan l.plan (plans_of h)
 plan_on l [] ok = refl
 plan_on l (e ∷ h) ok =
-    let here : entered_by l e ≡ entered l e.call = cond-true (accepted e) (entered l e.call) l (ap (λ (o : Option Refusal). not (is_some o)) ok.0) in
+    let here = entered_accepted l e ok.0 in
     plan_on (entered_by l e) h ok.1
     ∙ (ap (λ (k : Ledger). last_plan k.plan (plans_of h)) here
     ∙ (ap (λ (p : ℕ). last_plan p (plans_of h)) (plan_after l e.call) ∙ sym (last_append l.plan (plans_in (plan_of e.call)) (plans_of h))))

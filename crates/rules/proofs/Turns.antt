@@ -19,7 +19,7 @@ use Rattle.rules.proofs.Invariant.{holds_tells}
 use Rattle.rules.proofs.Splits.{along, joined_push}
 use Rattle.rules.proofs.Tables.{upd_cases}
 use Rattle.rules.proofs.Unrefused.{release_passes}
-use Rattle.rules.proofs.Walking.{of_unrefused}
+use Rattle.rules.proofs.Walking.{of_unrefused, ledger_push}
 
 -- ── a run without a refusal ──
 
@@ -37,12 +37,6 @@ legal r ok =
       accepts = λ before e after split. accepted_tells (refused_with e.answer) (ok before e after split);
       passes = λ before e after split. sym (refusals_told r before e after split) ∙ accepted_tells (refused_with e.answer) (ok before e after split);
     }
-
--- the ledger after an accepted event
-pub ledger_push : (before : History) (e : Event) → refused_with e.answer ≡ None → ledger_of (before ++ (e ∷ [])) ≡ entered (ledger_of before) e.call
-ledger_push before e a =
-    fold_push entered_by _ before e
-    ∙ cond-true (accepted e) (entered (ledger_of before) e.call) (ledger_of before) (ap (λ (o : Option Refusal). not (is_some o)) a)
 
 -- ── holder and queue ──
 

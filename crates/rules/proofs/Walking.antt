@@ -33,6 +33,14 @@ of_refused project e r h = ap (λ (a : Result Answer Refusal). of_accepted proje
 pub of_unrefused : {X : Type 0} (project : Call → Option X) (e : Event) → refused_with e.answer ≡ None → of_accepted project e ≡ project e.call
 of_unrefused project e h = cond-true (accepted e) (project e.call) None (ap (λ (o : Option Refusal). not (is_some o)) h)
 
+-- the ledger after an accepted event
+pub entered_accepted : (l : Ledger) (e : Event) → refused_with e.answer ≡ None → entered_by l e ≡ entered l e.call
+entered_accepted l e a =
+    cond-true (accepted e) (entered l e.call) l (ap (λ (o : Option Refusal). not (is_some o)) a)
+
+pub ledger_push : (before : History) (e : Event) → refused_with e.answer ≡ None → ledger_of (before ++ (e ∷ [])) ≡ entered (ledger_of before) e.call
+ledger_push before e a = fold_push entered_by _ before e ∙ entered_accepted (ledger_of before) e a
+
 -- what the history tells of the ledger and of the words
 pub record Told (b : Setting) (old now : ℕ → Word) (l : Ledger) (h : History) : Type 0 where
   pub ledger : l ≡ ledger_of h
@@ -90,8 +98,7 @@ module _ (b : Setting) (fits : Fits b) (old : ℕ → Word) where
     -- the ledger after an accepted call is the history's
     entered_told : refused_with e.answer ≡ None → entered l e.call ≡ ledger_of (h ++ (e ∷ []))
     entered_told a =
-        ap (λ (k : Ledger). entered k e.call) m.told.ledger
-        ∙ sym (fold_push entered_by _ h e ∙ cond-true (accepted e) (entered (ledger_of h) e.call) (ledger_of h) (ap (λ (o : Option Refusal). not (is_some o)) a))
+        ap (λ (k : Ledger). entered k e.call) m.told.ledger ∙ sym (ledger_push h e a)
 
     -- an accepted call that is no store moves no word
     plain_told : store_of e.call ≡ None → refused_with e.answer ≡ None → Told b old now (entered l e.call) (h ++ (e ∷ []))
