@@ -1,10 +1,10 @@
 -- The laws of one run: refusals are told by history, no load is stale, and two loads are equal exactly when no store came
 -- between. The first two are read off the moment before the call. For the third, marks of different stores differ: of two
 -- stores of one core the later has the greater count. Assumes nothing.
-use Rattle.std.proofs.Common.{◌≡◌, ℕ, ◌<◌, [], ◌∷◌, ◌++◌, Some, None, Option, sym, refl, ap, ◌∙◌, subst, arith, Ok, Err, Result}
+use Rattle.std.proofs.Common.{◌≡◌, ℕ, ◌<◌, [], ◌∷◌, ◌++◌, Some, None, Option, sym, refl, ap, ◌∙◌, subst, arith, Ok, Result}
 use Rattle.std.proofs.lemmas.Option.{same_Some}
 use Rattle.call.specs.declared.answer.Answer.{Answer}
-use Rattle.call.specs.declared.answer.Answer.TheVariants.{Loaded, Stored, Done}
+use Rattle.call.specs.declared.answer.Answer.TheVariants.{Loaded}
 use Rattle.call.specs.declared.call.Call.{Call}
 use Rattle.call.specs.declared.call.Call.TheVariants as call
 use Rattle.call.specs.declared.refusal.Refusal.{Refusal}

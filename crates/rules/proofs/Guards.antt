@@ -1,7 +1,7 @@
 -- The guard of a lock is its holder or, of a free lock, its last releaser. Whatever was stored under a lock in this phase is
 -- in the set of its guard: a store puts it there, and the next guard takes it in. Sets only grow within a phase.
 -- Assumes nothing.
-use Rattle.std.proofs.Common.{◌≡◌, ℕ, ◌<◌, true, List, [], ◌∷◌, Some, None, Option, sym, refl, ap, ◌∙◌, inl, ⊎_elim, arith}
+use Rattle.std.proofs.Common.{◌≡◌, ℕ, ◌<◌, true, List, [], ◌∷◌, Some, None, Option, refl, ◌∙◌, inl, ⊎_elim, arith}
 use Rattle.std.proofs.lemmas.Bool.{cases_eq}
 use Rattle.sets.specs.Sentences as signature
 use Rattle.sets.specs.Sentences.{Sets}

@@ -2,17 +2,16 @@
 -- Else, of one core, its own calls would disagree; and of two cores, both accesses would lie in one phase under one plan:
 -- where a read_only strip refuses the store, in a written strip the first run shows a race, and in a locked strip the same
 -- cores have released the lock before both, so that both are by the one holder. Assumes nothing.
-use Rattle.std.proofs.Common.{◌≡◌, ℕ, ◌+◌, ◌-◌, ◌/◌, ◌^◌, ◌<◌, ◌≤◌, Bool, true, false, cond, not, eqb, leb, List, [], ◌∷◌, ◌++◌, length, is_some, Some, None, fold, Option, sym, refl, ap, ◌∙◌, subst, ⊎_elim, append_assoc, mod-lt, arith, lit<, length-append}
+use Rattle.std.proofs.Common.{◌≡◌, ℕ, ◌+◌, ◌/◌, ◌^◌, ◌<◌, ◌≤◌, Bool, true, false, cond, List, [], ◌∷◌, ◌++◌, length, Some, None, fold, Option, sym, refl, ap, ◌∙◌, subst, ⊎_elim, append_assoc, mod-lt, arith, lit<, length-append}
 use Rattle.std.proofs.lemmas.List.Sums.{fold-append}
 use Rattle.std.proofs.lemmas.List.Concat.{flat_map-append}
 use Rattle.std.proofs.lemmas.Option.{same_Some}
 use Rattle.std.proofs.lemmas.List.{append-nil, append_cancel_left, nil_from_length}
-use Rattle.std.proofs.lemmas.Bool.{eq-eqb, cases_eq, both_ways, cond-true}
+use Rattle.std.proofs.lemmas.Bool.{eq-eqb, cases_eq, both_ways}
 use Rattle.call.specs.Figures.{Five, strip_of}
 use Rattle.call.specs.declared.call.Call.{Call}
 use Rattle.call.specs.declared.call.Call.TheVariants as call
 use Rattle.call.specs.declared.refusal.Access.TheVariants.{Store}
-use Rattle.call.specs.declared.refusal.Refusal.{Refusal}
 use Rattle.rules.specs.Histories.{accepted, refused_with, store_of, Written, Wanted, plan_of, acquirers, releasers, concerns, calls_of, entered_by, ledger_of}
 use Rattle.rules.specs.Laws.{SameOrder}
 use Rattle.rules.specs.Plans.{Mode, read_only, written, locked, bits_of, mode_of_bits, mode_of, is_read_only}

@@ -1,14 +1,13 @@
 -- What a core's own calls with the phase calls decide, in a history without a refusal: how often it released a lock, how many
 -- stores it has made, and the plan in force. And the call at a place among them stands in the history. Assumes nothing.
-use Rattle.std.proofs.Common.{◌≡◌, ℕ, ◌+◌, Bool, true, false, cond, not, eqb, List, [], ◌∷◌, ◌++◌, is_some, Some, None, fold, Option, sym, refl, ap, ◌∙◌, inl, inr, ⊎_elim, zero-add, arith}
+use Rattle.std.proofs.Common.{◌≡◌, ℕ, ◌+◌, Bool, true, false, cond, eqb, List, [], ◌∷◌, ◌++◌, is_some, Some, None, fold, Option, sym, refl, ap, ◌∙◌, inl, inr, ⊎_elim, zero-add, arith}
 use Rattle.std.specs.List.{flat_map}
 use Rattle.std.proofs.lemmas.Bool.Decides.{nat_tests}
-use Rattle.std.proofs.lemmas.Bool.{eqb-true, eqb-false, cond-true, cond-false, cases_Bool, or_parts}
+use Rattle.std.proofs.lemmas.Bool.{cond-true, cond-false, cases_Bool, or_parts}
 use Rattle.call.specs.Calls.{caller_of}
 use Rattle.call.specs.declared.call.Call.{Call}
 use Rattle.call.specs.declared.call.Call.TheVariants as call
-use Rattle.call.specs.declared.refusal.Refusal.{Refusal}
-use Rattle.rules.specs.Histories.{accepted, refused_with, stored, store_of, Written, released, release_of, plan_of, Asked, cores_for, releasers, concerns, calls_of, Tracked, track_by, tracked, entered_by, ledger_of}
+use Rattle.rules.specs.Histories.{refused_with, stored, store_of, Written, released, release_of, plan_of, Asked, cores_for, releasers, concerns, calls_of, Tracked, track_by, tracked, entered_by, ledger_of}
 use Rattle.rules.specs.Runs.{Event, History}
 use Rattle.rules.specs.State.{Ledger}
 use Rattle.rules.specs.Steps.{entered}

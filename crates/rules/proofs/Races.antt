@@ -1,8 +1,8 @@
 -- The race that refusal 6 names, found in the history: the ledger's accesses are those of the events of this phase, in order,
 -- and the first of them that passes a test stands in the history. Assumes nothing.
-use Rattle.std.proofs.Common.{◌≡◌, ℕ, Bool, true, false, cond, not, ◌&&◌, ◌||◌, eqb, leb, ◌⊎◌, List, [], ◌∷◌, ◌++◌, Some, None, Option, sym, refl, ap, ◌∙◌, subst, inl, inr, ⊎_elim, arith}
+use Rattle.std.proofs.Common.{◌≡◌, ℕ, Bool, true, false, cond, not, ◌&&◌, ◌||◌, eqb, leb, ◌⊎◌, List, [], ◌∷◌, ◌++◌, Some, None, Option, sym, refl, ap, ◌∙◌, subst, inl, inr, arith}
 use Rattle.std.proofs.lemmas.List.Sums.{fold_push}
-use Rattle.std.proofs.lemmas.Option.{none-some, same_Some}
+use Rattle.std.proofs.lemmas.Option.{none-some}
 use Rattle.std.specs.List.{flat_map}
 use Rattle.std.proofs.lemmas.List.{append-nil}
 use Rattle.std.proofs.Math.Bool.{or-false}
@@ -16,14 +16,13 @@ use Rattle.call.specs.declared.refusal.Refusal.TheVariants.{NoCore, OutsideBoard
 use Rattle.rules.specs.Histories.{accepted, refused_with, begins, plan_of, touches, accessed, phase_by, this_phase, passes, other_access, entered_by, ledger_of}
 use Rattle.rules.specs.Laws.{RacesNamed}
 use Rattle.rules.specs.Plans.{Mode, read_only, written, locked, is_read_only, has_bad_mode}
-use Rattle.rules.specs.Refusals.{same_access, by_another, earliest, as_race, load_race, store_race, refusal, rows, mode, waits, holds, holds_some, some_held, shut_out}
+use Rattle.rules.specs.Refusals.{same_access, by_another, earliest, as_race, load_race, store_race, refusal, mode, waits, holds, holds_some, some_held, shut_out}
 use Rattle.rules.specs.Runs.{Event, History, Ran}
 use Rattle.rules.specs.State.{Accessed, Ledger, Setting, setting}
 use Rattle.rules.specs.Steps.{entered}
 use Rattle.rules.specs.Tables.{first, when, some_of}
 use Rattle.rules.proofs.Accesses.{some_of_append}
 use Rattle.rules.proofs.Fresh.{refusals_told}
-use Rattle.rules.proofs.Members.{In}
 use Rattle.rules.proofs.Splits.{along, joined_push, OneOrNone, Source, source}
 
 -- ── this phase's accesses ──

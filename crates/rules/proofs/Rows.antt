@@ -1,15 +1,15 @@
 -- Each row of the rules keeps page, caches and owners sound, and a load gives the word that the history says.
 -- A load, a store or a write back is made of the small steps of Memories.antt; settle is the write back of each place in
 -- turn, and after it no word has an owner. Assumes nothing.
-use Rattle.std.proofs.Common.{◌≡◌, ℕ, ◌<◌, Bool, true, false, cond, eqb, ◌⊎◌, length, Some, None, Option, sym, refl, ap, ◌∙◌, subst, inl, inr, ⊎_elim, arith, length-set}
-use Rattle.std.proofs.lemmas.Bool.{eq-eqb, eqb-true, cond-true, cond-false}
+use Rattle.std.proofs.Common.{◌≡◌, ℕ, ◌<◌, Bool, true, false, cond, eqb, length, Some, None, Option, sym, refl, ap, ◌∙◌, subst, arith, length-set}
+use Rattle.std.proofs.lemmas.Bool.{eq-eqb, eqb-true, cond-true}
 use Rattle.std.proofs.lemmas.Bool.Decides.{nat_tests}
 use Rattle.call.specs.Figures.{Five, slot_of}
 use Rattle.word.specs.declared.word.Word.{Word}
 use Rattle.rules.specs.Effects as effect
 use Rattle.rules.specs.Effects.{Got, Put, Place, with_copy, write_back, write_back_by, word_in, fetch, fetch_into, fetch_by, load_row, hit, claim, claim_from, claim_by, store_row, evict_row, places, dropped, faded}
 use Rattle.rules.specs.State.{Copy, invalid, valid, registered, Memory, page_word, of_word, copy_of}
-use Rattle.rules.specs.Tables.{upd, upd2}
+use Rattle.rules.specs.Tables.{upd}
 use Rattle.rules.proofs.Memories.{Sound, Unregistered, Loose, write_back_sound, write_back_clears, dropped_sound, filled_sound, loose_unowned, loose_taken, claimed_sound, stored_stands, stored_seen}
 use Rattle.rules.proofs.Tables.{upd_cases, upd2_cases}
 

@@ -1,11 +1,11 @@
 -- Settle writes every registered copy back, place by place: all stays sound and no word has an owner after it. A phase call
 -- drops each copy that could be stale. Assumes nothing.
-use Rattle.std.proofs.Common.{◌≡◌, ℕ, ◌<◌, Bool, true, false, cond, not, ◌⊎◌, List, [], ◌∷◌, Some, None, fold, Option, sym, refl, ap, ◌∙◌, inl, ⊎_elim, mod-lt, arith}
+use Rattle.std.proofs.Common.{◌≡◌, ℕ, ◌<◌, cond, not, ◌⊎◌, List, [], ◌∷◌, Some, None, fold, Option, sym, refl, ap, ◌∙◌, inl, ⊎_elim, mod-lt, arith}
 use Rattle.call.specs.Figures.{Five, slot_of}
 use Rattle.word.specs.declared.word.Word.{Word}
 use Rattle.rules.specs.Effects as effect
 use Rattle.rules.specs.Effects.{Put, Place, write_back, write_back_by, places, dropped, faded}
-use Rattle.rules.specs.Plans.{Mode, read_only, written, locked, mode_of, is_read_only}
+use Rattle.rules.specs.Plans.{Mode, read_only, mode_of, is_read_only}
 use Rattle.rules.specs.State.{Copy, invalid, valid, registered, Memory}
 use Rattle.rules.proofs.Members.{In, in_places}
 use Rattle.rules.proofs.Memories.{Sound, Unregistered, write_back_sound, write_back_clears}

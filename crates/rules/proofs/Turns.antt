@@ -2,13 +2,12 @@
 -- since a release is by the holder and passes the lock to the head of the queue. So the order of holders begins with the
 -- releasers so far and then the holder. Assumes nothing.
 use Rattle.std.proofs.Common.{◌≡◌, ℕ, true, not, eqb, List, [], ◌∷◌, ◌++◌, is_some, Some, None, Option, sym, refl, ap, ◌∙◌, subst, ⊎_elim, append_assoc, arith}
-use Rattle.std.proofs.lemmas.List.Sums.{fold_push}
 use Rattle.std.proofs.lemmas.List.{append-nil}
 use Rattle.std.proofs.lemmas.Bool.{cond-true, cond-false, eq-eqb, ne_eqb}
 use Rattle.call.specs.declared.call.Call.{Call}
 use Rattle.call.specs.declared.call.Call.TheVariants as call
 use Rattle.call.specs.declared.refusal.Refusal.{Refusal}
-use Rattle.rules.specs.Histories.{accepted, refused_with, acquire_of, release_of, Asked, cores_for, acquirers, releasers, entered_by, ledger_of}
+use Rattle.rules.specs.Histories.{refused_with, acquire_of, release_of, Asked, cores_for, acquirers, releasers, ledger_of}
 use Rattle.rules.specs.Laws.{Unrefused}
 use Rattle.rules.specs.Refusals.{refusal}
 use Rattle.rules.specs.Runs.{Event, History, Ran}

@@ -1,5 +1,5 @@
 -- What a call that is not refused tells: no row of it is met. Assumes nothing.
-use Rattle.std.proofs.Common.{◌≡◌, ℕ, ◌<◌, true, false, not, leb, List, [], ◌∷◌, None, Option}
+use Rattle.std.proofs.Common.{◌≡◌, ℕ, ◌<◌, true, false, List, [], ◌∷◌, None, Option}
 use Rattle.std.proofs.lemmas.Bool.{leb-false, not-false}
 use Rattle.call.specs.declared.call.Call.TheVariants as call
 use Rattle.call.specs.declared.refusal.Refusal.TheVariants.{NoCore, OutsideBoard, Waiting, ReadOnly, NotHolder, AllowanceSpent, NoLock, HoldsLock, NotHeld}
