@@ -1,6 +1,8 @@
 -- The order law: the last store before a load is carried over to the other run and back, so both loads give what the same
 -- store wrote; its count agrees since the core's own calls do. Assumes nothing.
 use Rattle.std.proofs.Common.{◌≡◌, ℕ, ◌+◌, ◌<◌, Bool, true, false, cond, eqb, List, [], ◌∷◌, ◌++◌, Some, None, Option, sym, refl, ap, ◌∙◌, subst, ⊎_elim, append_assoc, arith}
+use Rattle.std.proofs.lemmas.List.Sums.{fold-append}
+use Rattle.std.proofs.lemmas.List.Concat.{flat_map-append}
 use Rattle.std.proofs.lemmas.List.{append_cancel_left}
 use Rattle.std.proofs.lemmas.Bool.{eqb-true, both_ways, cases_Bool, cond-true, eq-eqb}
 use Rattle.call.specs.declared.call.Call.{Call}
@@ -14,12 +16,12 @@ use Rattle.rules.specs.Runs.{Event, History, Ran}
 use Rattle.rules.specs.State.{Setting, setting}
 use Rattle.rules.specs.Steps.{step, outcome}
 use Rattle.rules.specs.Tables.{some_of}
-use Rattle.rules.proofs.Equal.{folded_append, fresh_same, later}
+use Rattle.rules.proofs.Equal.{fresh_same, later}
 use Rattle.rules.proofs.Fresh.{reached, no_stale, loaded_tells}
-use Rattle.rules.proofs.Order.{access_of, access_below, store_accesses, access_concerns, Twins, before_ok, keeps_order}
+use Rattle.rules.proofs.Order.{access_of, used_by, access_below, store_accesses, access_concerns, Twins, before_ok, keeps_order}
 use Rattle.rules.proofs.Own.{found, own_stores, stores_own}
 use Rattle.rules.proofs.Settled.{fresh_alike}
-use Rattle.rules.proofs.Splits.{Spot, Last, last_of, none_at, joined_append, tail_same}
+use Rattle.rules.proofs.Splits.{Spot, Last, last_of, none_at, tail_same}
 use Rattle.rules.proofs.Turns.{legal}
 use Rattle.rules.proofs.Unrefused.{load_passes}
 use Rattle.rules.proofs.Opening.{fits}
@@ -50,9 +52,14 @@ pub twin : (r q : Ran) → SameOrder r q → (c : ℕ) → c < 8 → (s : Spot r
 twin r q o c below s t =
     let mine = calls_of c s.before in
     let here : calls_of c (s.event ∷ s.after) ≡ s.event.call ∷ calls_of c s.after = ap (λ (b : Bool). cond b (s.event.call ∷ []) [] ++ calls_of c s.after) t in
-    let whole : calls_of c q.history ≡ mine ++ (s.event.call ∷ calls_of c s.after) = sym (o.calls c below) ∙ (ap (calls_of c) s.stands ∙ (joined_append _ s.before (s.event ∷ s.after) ∙ ap (λ (k : List Call). mine ++ k) here)) in
+    let whole : calls_of c q.history ≡ mine ++ (s.event.call ∷ calls_of c s.after) = sym (o.calls c below) ∙ (ap (calls_of c) s.stands ∙ (flat_map-append _ s.before (s.event ∷ s.after) ∙ ap (λ (k : List Call). mine ++ k) here)) in
     let f = found c q.history mine s.event.call (calls_of c s.after) whole in
     (f.spot, record { place = sym f.place; call = sym f.call })
+
+-- an accepted access has its twin
+access_twin : (r q : Ran) → SameOrder r q → (s : Spot r.history) (a : Wanted) → access_of s.event.call ≡ Some a → (t : Spot q.history) × Twins a.core s t
+access_twin r q o s a uses =
+    twin r q o a.core (access_core r o.all_accepted s a uses) s (access_concerns s.event.call a uses)
 
 pub twins_back : (c : ℕ) {h k : History} (s : Spot h) (t : Spot k) → Twins c s t → Twins c t s
 twins_back c s t p = record { place = sym p.place; call = sym p.call }
@@ -89,7 +96,7 @@ last_at : (w : ℕ) (a : History) (e : Event) (m : History) (s : Written) → re
 last_at w a e m s ok c h none =
     let moved : track_by w (stored e) (tracked w a) ≡ track_by w (Some s) (tracked w a) = ap (λ (o : Option Written). track_by w o (tracked w a)) (of_unrefused store_of e ok ∙ c) in
     let there : (track_by w (stored e) (tracked w a)).last ≡ told_as s ((tracked w a).counts s.core + 1) = ap (λ (t : Tracked). t.last) moved ∙ cond-true (eqb s.word w) _ _ (eq-eqb s.word w h) in
-    ap (λ (t : Tracked). t.last) (folded_append _ _ a (e ∷ m))
+    ap (λ (t : Tracked). t.last) (fold-append _ _ a (e ∷ m))
     ∙ (⊎_elim (λ p. p.1) (λ p. absurd (both_ways (some_of (stores_to w) m) none p.0)) (later w (track_by w (stored e) (tracked w a)) m) ∙ there)
 
 last_none : (w : ℕ) (h : History) → some_of (stores_to w) h ≡ false → last_store w h ≡ None
@@ -118,7 +125,7 @@ module _ (r q : Ran) (o : SameOrder r q) where
 
     carried : (S' : Spot q.history) (s : Written) → store_of S'.event.call ≡ Some s → s.word ≡ a.word → (M' : History) → T'.before ≡ S'.before ++ (S'.event ∷ M') → Carried S' s
     carried S' s call here M' split =
-        let found_s = twin q r (same_order_back r q o) s.core (access_core q o.others_accepted S' (record { core = s.core; word = s.word }) (store_accesses S'.event.call s call)) S' (access_concerns S'.event.call (record { core = s.core; word = s.word }) (store_accesses S'.event.call s call)) in
+        let found_s = access_twin q r (same_order_back r q o) S' (used_by s) (store_accesses S'.event.call s call) in
         let k = keeps_order q r (same_order_back r q o) S' T' found_s.0 T s a call uses' here found_s.1 (twins_back a.core T T' twins) M' split in
         record { spot = found_s.0; twins_s = twins_back s.core S' found_s.0 found_s.1; between = k.0; first = k.1 }
 
@@ -154,7 +161,7 @@ module _ (r q : Ran) (o : SameOrder r q) where
         st = stores_tells a.word l.event (accepts_r S) l.passes
 
         found_s : (t : Spot q.history) × Twins st.store.core S t
-        found_s = twin r q o st.store.core (access_core r o.all_accepted S (record { core = st.store.core; word = st.store.word }) (store_accesses l.event.call st.store st.call)) S (access_concerns l.event.call (record { core = st.store.core; word = st.store.word }) (store_accesses l.event.call st.store st.call))
+        found_s = access_twin r q o S (used_by st.store) (store_accesses l.event.call st.store st.call)
 
         S' : Spot q.history
         S' = found_s.0
@@ -181,7 +188,7 @@ module _ (r q : Ran) (o : SameOrder r q) where
             let su = stores_tells a.word k.event (accepts_q U') k.passes in
             let c = carried U' su.store su.call su.here k.after upto in
             let u_uses = store_accesses k.event.call su.store su.call in
-            let s_first = keeps_order q r (same_order_back r q o) S' U' S c.spot st.store (record { core = su.store.core; word = su.store.word }) call' u_uses (st.here ∙ sym su.here) (twins_back st.store.core S S' found_s.1) (twins_back su.store.core c.spot U' c.twins_s) k.before refl in
+            let s_first = keeps_order q r (same_order_back r q o) S' U' S c.spot st.store (used_by su.store) call' u_uses (st.here ∙ sym su.here) (twins_back st.store.core S S' found_s.1) (twins_back su.store.core c.spot U' c.twins_s) k.before refl in
             let whole : l.before ++ (l.event ∷ l.after) ≡ l.before ++ (l.event ∷ (s_first.0 ++ (c.spot.event ∷ c.between))) = sym l.stands ∙ (c.first ∙ (ap (λ (x : History). x ++ (c.spot.event ∷ c.between)) s_first.1 ∙ append_assoc l.before (l.event ∷ s_first.0) (c.spot.event ∷ c.between))) in
             let tails = append_cancel_left l.before (l.event ∷ l.after) (l.event ∷ (s_first.0 ++ (c.spot.event ∷ c.between))) whole in
             let rest = tail_same l.event l.event l.after (s_first.0 ++ (c.spot.event ∷ c.between)) tails in
@@ -213,7 +220,7 @@ load_gives q t w c a = go (refusal b p.state.ledger (call.Load w.core w.word)) r
     by_rule = p.chain.0 ∙ ap (λ (k : Call). (step (setting q.figures q.page) p.sets p.state k).answer) c
 
     go : (o : Option Refusal) → refusal b p.state.ledger (call.Load w.core w.word) ≡ o → t.event.answer ≡ (outcome o (setting q.figures q.page) p.sets p.state (call.Load w.core w.word)).answer → (x : Word) × (loaded t.event ≡ Some (record { core = w.core; word = w.word; given = x }))
-    go (Some r) e k = let z : None ≡ Some r = sym a ∙ ap refused_with k in grind arith
+    go (Some r) e k = absurd (cc (sym a ∙ ap refused_with k))
     go None e k = (_, (λ i. given_by (k i) (load_of (c i))))
 
 pub order_decides : (r q : Ran) → OrderDecides r q
@@ -241,7 +248,7 @@ order_decides r q o before e after l split h =
     uses = ap access_of is_load
 
     found_t : (t : Spot q.history) × Twins l.core T t
-    found_t = twin r q o l.core (access_core r o.all_accepted T a uses) T (access_concerns e.call a uses)
+    found_t = access_twin r q o T a uses
 
     T' : Spot q.history
     T' = found_t.0

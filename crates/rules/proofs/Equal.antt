@@ -1,7 +1,8 @@
 -- Two loads of one word are equal exactly when no store to it came between. Without one, both give what the same store
 -- wrote. With one, the later load gives the mark of a store whose count is above its core's count at the first load, and no
 -- mark before has that core and count. Assumes nothing.
-use Rattle.std.proofs.Common.{◌≡◌, ℕ, ◌+◌, ◌<◌, ◌≤◌, Bool, true, false, cond, ◌||◌, eqb, ◌⊎◌, List, [], ◌∷◌, ◌++◌, Some, None, fold, Option, sym, refl, ap, ◌∙◌, subst, inl, inr, ⊎_elim, append_assoc, arith}
+use Rattle.std.proofs.Common.{◌≡◌, ℕ, ◌+◌, ◌<◌, ◌≤◌, Bool, true, false, cond, ◌||◌, eqb, ◌⊎◌, [], ◌∷◌, ◌++◌, Some, None, fold, Option, sym, refl, ap, ◌∙◌, subst, inl, inr, ⊎_elim, append_assoc, arith}
+use Rattle.std.proofs.lemmas.List.Sums.{fold-append}
 use Rattle.std.proofs.lemmas.Bool.{both_ways}
 use Rattle.call.specs.declared.call.Call.{Call}
 use Rattle.call.specs.declared.call.Call.TheVariants as call
@@ -15,10 +16,6 @@ use Rattle.rules.specs.Runs.{History, Ran}
 use Rattle.rules.specs.Tables.{upd, some_of}
 use Rattle.rules.proofs.Fresh.{reached, no_stale, loaded_tells}
 use Rattle.rules.proofs.Tables.{upd_cases}
-
-pub folded_append : {A B : Type 0} (f : B → A → B) (b : B) (xs ys : List A) → fold f b (xs ++ ys) ≡ fold f (fold f b xs) ys
-folded_append f b [] ys = refl
-folded_append f b (x ∷ xs) ys = folded_append f (f b x) xs ys
 
 -- a word is settled by its value and its mark's number
 pub same_word : (x y : Word) → x.value ≡ y.value → number x.mark ≡ number y.mark → x ≡ y
@@ -103,7 +100,7 @@ equal_loads r before e between f after l m split h k same = (to, from)
     moved =
         let whole = later l.word (tracked l.word before) (e ∷ between) in
         let quiet : some_of (stores_to l.word) (e ∷ between) ≡ some_of (stores_to l.word) between = ap (λ (o : Option Written). writes l.word o || some_of (stores_to l.word) between) no_store in
-        subst (λ (t : Tracked). After l.word (tracked l.word before) t (some_of (stores_to l.word) between)) (sym (folded_append _ _ before (e ∷ between)))
+        subst (λ (t : Tracked). After l.word (tracked l.word before) t (some_of (stores_to l.word) between)) (sym (fold-append _ _ before (e ∷ between)))
         (subst (λ (t : Bool). After l.word (tracked l.word before) (track_on l.word (tracked l.word before) (e ∷ between)) t) quiet whole)
 
     from : some_of (stores_to l.word) between ≡ false → l.given ≡ m.given

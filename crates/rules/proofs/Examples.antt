@@ -57,7 +57,7 @@ each_below_8 P a b c d e f g h (suc (suc (suc (suc zero)))) l = e
 each_below_8 P a b c d e f g h (suc (suc (suc (suc (suc zero))))) l = f
 each_below_8 P a b c d e f g h (suc (suc (suc (suc (suc (suc zero)))))) l = g
 each_below_8 P a b c d e f g h (suc (suc (suc (suc (suc (suc (suc zero))))))) l = h
-each_below_8 P a b c d e f g h (suc (suc (suc (suc (suc (suc (suc (suc n)))))))) l = let no_way : ⊥ = omega arith in absurd no_way
+each_below_8 P a b c d e f g h (suc (suc (suc (suc (suc (suc (suc (suc n)))))))) l = absurd (omega arith)
 
 one_played : history_of one_order (played sample one_order).answers ≡ one_history
 unfolding upd upd2

@@ -1,9 +1,10 @@
 -- The laws of one run: refusals are told by history, no load is stale, and two loads are equal exactly when no store came
 -- between. The first two are read off the moment before the call. For the third, marks of different stores differ: of two
 -- stores of one core the later has the greater count. Assumes nothing.
-use Rattle.std.proofs.Common.{◌≡◌, ℕ, ◌<◌, [], ◌∷◌, ◌++◌, Some, None, Option, sym, refl, ap, ◌∙◌, subst, arith, Ok, Err, Result}
+use Rattle.std.proofs.Common.{◌≡◌, ℕ, ◌<◌, [], ◌∷◌, ◌++◌, Some, None, Option, sym, refl, ap, ◌∙◌, subst, arith, Ok, Result}
+use Rattle.std.proofs.lemmas.Option.{same_Some}
 use Rattle.call.specs.declared.answer.Answer.{Answer}
-use Rattle.call.specs.declared.answer.Answer.TheVariants.{Loaded, Stored, Done}
+use Rattle.call.specs.declared.answer.Answer.TheVariants.{Loaded}
 use Rattle.call.specs.declared.call.Call.{Call}
 use Rattle.call.specs.declared.call.Call.TheVariants as call
 use Rattle.call.specs.declared.refusal.Refusal.{Refusal}
@@ -19,7 +20,7 @@ use Rattle.rules.specs.Steps.{step, outcome, again}
 use Rattle.rules.proofs.Invariant.{Fits, load_is_fresh}
 use Rattle.rules.proofs.Opening.{fits, opening_moment}
 use Rattle.rules.proofs.Unrefused.{load_passes}
-use Rattle.rules.proofs.Walking.{Moment, Reached, walk, same_some}
+use Rattle.rules.proofs.Walking.{Moment, Reached, walk}
 
 -- the moment before an event of a run
 pub reached : (r : Ran) (before rest : History) → r.history ≡ before ++ rest → Reached (setting r.figures r.page) (fits r.figures r.page r.passed) (old_word r) before rest r.final
@@ -44,14 +45,8 @@ refusals_told r before e after split =
 
 load_of_tells : (c : Call) (w : Wanted) → load_of c ≡ Some w → c ≡ call.Load w.core w.word
 load_of_tells (call.Load core word) w e =
-    let same = same_some _ w e in
-    λ i. call.Load (same i).core (same i).word
-load_of_tells (call.Store core word value) w e = grind arith
-load_of_tells (call.Evict core word) w e = grind arith
-load_of_tells (call.Acquire core lock) w e = grind arith
-load_of_tells (call.Release core lock) w e = grind arith
-load_of_tells (call.Phase plan) w e = grind arith
-load_of_tells call.Settle w e = grind arith
+    grind arith
+load_of_tells _ w e = grind arith
 
 -- what an accepted load tells of its event
 pub record LoadEvent (e : Event) (l : LoadGiven) : Type 0 where
@@ -63,16 +58,10 @@ pub loaded_tells : (e : Event) (l : LoadGiven) → loaded e ≡ Some l → LoadE
 loaded_tells e l h = go e.answer (load_of e.call) refl refl h
   where
     go : (a : Result Answer Refusal) (o : Option Wanted) → e.answer ≡ a → load_of e.call ≡ o → given_by a o ≡ Some l → LoadEvent e l
-    go (Ok (Loaded x source)) None p q r = grind arith
     go (Ok (Loaded x source)) (Some w) p q r =
-        let same = same_some _ l r in
+        let same = same_Some _ l r in
         record { source = source; call = load_of_tells e.call w q ∙ (λ i. call.Load (same i).core (same i).word); answer = p ∙ (λ i. Ok (Loaded (same i).given source)) }
-    go (Ok (Stored answer mark)) None p q r = grind arith
-    go (Ok (Stored answer mark)) (Some w) p q r = grind arith
-    go (Ok (Done small)) None p q r = grind arith
-    go (Ok (Done small)) (Some w) p q r = grind arith
-    go (Err x) None p q r = grind arith
-    go (Err x) (Some w) p q r = grind arith
+    go _ _ p q r = grind arith
 
 -- a load that is not refused gives the word that the history says
 load_fresh : (b : Setting) (ok : Fits b) (old : ℕ → Word) (h : History) (s : State) (g : Sets) (m : Moment b ok old h s g) (core word : ℕ) (x : Word) (source : ℕ) → Ok (Loaded x source) ≡ (step b g s (call.Load core word)).answer → (word < b.size) × (x ≡ m.now word)

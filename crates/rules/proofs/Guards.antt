@@ -1,7 +1,7 @@
 -- The guard of a lock is its holder or, of a free lock, its last releaser. Whatever was stored under a lock in this phase is
 -- in the set of its guard: a store puts it there, and the next guard takes it in. Sets only grow within a phase.
 -- Assumes nothing.
-use Rattle.std.proofs.Common.{◌≡◌, ℕ, ◌<◌, true, List, [], ◌∷◌, Some, None, Option, sym, refl, ap, ◌∙◌, inl, ⊎_elim, arith}
+use Rattle.std.proofs.Common.{◌≡◌, ℕ, ◌<◌, true, List, [], ◌∷◌, Some, None, Option, refl, ◌∙◌, inl, ⊎_elim, arith}
 use Rattle.std.proofs.lemmas.Bool.{cases_eq}
 use Rattle.sets.specs.Sentences as signature
 use Rattle.sets.specs.Sentences.{Sets}
@@ -57,18 +57,18 @@ pub record Cores (lock : Lock) : Type 0 where
 pub acquired_guarded : (o : Option ℕ) (lock : Lock) (core : ℕ) (g h : Sets) → lock.holder ≡ o → core < 8 → Cores lock → Changes (granted_changes o lock core) g h → Grow g h × ((w : ℕ) → Guarded lock g w → Guarded (acquired_by o lock core) h w)
 acquired_guarded (Some d) lock core g h e below ok ch = (
   same_grows g h ch,
-  λ w p. record { core = d; guards = refl; has = let same : ◌≡◌ {A = Option ℕ} (Some d) (Some p.core) = ap (λ (k : Option ℕ). guard_by k lock.last) (sym e) ∙ p.guards in let who : d ≡ p.core = cc in ch d w ∙ rw who p.has },
+  λ w p. record { core = d; guards = refl; has = grind (arith, e, p.guards, p.has, ch d w) },
 )
 acquired_guarded None lock core g h e below ok ch = go lock.last refl ch
   where
     go : (o : Option ℕ) → lock.last ≡ o → Changes (takes_from o core) g h → Grow g h × ((w : ℕ) → Guarded lock g w → Guarded (acquired_by None lock core) h w)
     go None l same = (
       same_grows g h same,
-      λ w p. let none : ◌≡◌ {A = Option ℕ} None (Some p.core) = sym (ap (λ (k : Option ℕ). guard_by k lock.last) e ∙ l) ∙ p.guards in let z : ◌≡◌ {A = ℕ} 0 1 = cc in let no_way : ⊥ = omega arith in absurd no_way,
+      λ w p. absurd (grind (arith, e, l, p.guards)),
     )
     go (Some d) l (k, t, same) = (
       grow_on g k h (take_in_grows g k core d t) (same_grows k h same),
-      λ w p. record { core = core; guards = refl; has = let who : ◌≡◌ {A = Option ℕ} (Some d) (Some p.core) = sym (ap (λ (q : Option ℕ). guard_by q lock.last) e ∙ l) ∙ p.guards in let eq : d ≡ p.core = cc in same core w ∙ t.taken below (ok.last d l) w (rw eq p.has) },
+      λ w p. record { core = core; guards = refl; has = let eq : d ≡ p.core = grind (arith, e, l, p.guards) in same core w ∙ t.taken below (ok.last d l) w (rw eq p.has) },
     )
 
 -- ── release ──
@@ -76,9 +76,9 @@ acquired_guarded None lock core g h e below ok ch = go lock.last refl ch
 pub released_guarded : (q : List ℕ) (lock : Lock) (core : ℕ) (g h : Sets) → lock.queue ≡ q → lock.holder ≡ Some core → core < 8 → Cores lock → Changes (handed_changes q core) g h → Grow g h × ((w : ℕ) → Guarded lock g w → Guarded (released_to q core) h w)
 released_guarded [] lock core g h e held below ok same = (
   same_grows g h same,
-  λ w p. record { core = core; guards = refl; has = let who : ◌≡◌ {A = Option ℕ} (Some core) (Some p.core) = sym (ap (λ (k : Option ℕ). guard_by k lock.last) held) ∙ p.guards in let eq : core ≡ p.core = cc in same core w ∙ rw eq p.has },
+  λ w p. record { core = core; guards = refl; has = grind (arith, held, p.guards, p.has, same core w) },
 )
 released_guarded (next ∷ more) lock core g h e held below ok (k, t, same) = (
   grow_on g k h (take_in_grows g k next core t) (same_grows k h same),
-  λ w p. record { core = next; guards = refl; has = let who : ◌≡◌ {A = Option ℕ} (Some core) (Some p.core) = sym (ap (λ (q : Option ℕ). guard_by q lock.last) held) ∙ p.guards in let eq : core ≡ p.core = cc in same next w ∙ t.taken (ok.queue next (rw e (inl refl))) below w (rw eq p.has) },
+  λ w p. record { core = next; guards = refl; has = let eq : core ≡ p.core = grind (arith, held, p.guards) in same next w ∙ t.taken (ok.queue next (rw e (inl refl))) below w (rw eq p.has) },
 )

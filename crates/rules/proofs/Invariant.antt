@@ -51,13 +51,8 @@ pub record Good (b : Setting) (now : ℕ → Word) (s : State) (g : Sets) : Type
 
 -- the words that the history says, after an accepted call
 abbrev pub now_after : Ledger → (ℕ → Word) → Call → ℕ → Word
-now_after l now (call.Load core word) = now
 now_after l now (call.Store core word value) = upd now word (record { value = value; mark = next_mark l core })
-now_after l now (call.Evict core word) = now
-now_after l now (call.Acquire core lock) = now
-now_after l now (call.Release core lock) = now
-now_after l now (call.Phase plan) = now
-now_after l now call.Settle = now
+now_after l now _ = now
 
 -- the state after an accepted call
 abbrev pub after : Setting → Sets → State → Call → State
@@ -161,7 +156,7 @@ module _ (b : Setting) (fits : Fits b) (now : ℕ → Word) (s : State) (g g' : 
         covered_after written e same w d lock m st =
             ⊎_elim
             (λ old. guarded_grows (l.locks lock) g g' w (same_grows g g' same) (good.phased.covered w d lock m old))
-            (λ new. let z : ◌≡◌ {A = Mode} written (locked lock) = sym e ∙ (ap (mode_of f l.plan) (sym new.0) ∙ m) in let no_way : ⊥ = grind arith in absurd no_way)
+            (λ new. absurd (cc (sym e ∙ (ap (mode_of f l.plan) (sym new.0) ∙ m))))
             (stored_after l.accesses core word d w st)
         covered_after (locked k) e (h, p, same) w d lock m st =
             ⊎_elim
@@ -248,7 +243,7 @@ module _ (b : Setting) (fits : Fits b) (now : ℕ → Word) (s : State) (g g' : 
       cores_after : (q : List ℕ) → (l.locks lock).queue ≡ q → Cores (released_to q core)
       cores_after [] e =
           record {
-            holder = λ c h. let z : ◌≡◌ {A = ℕ} 0 1 = cc in omega arith;
+            holder = λ c h. absurd cc;
             queue = λ c h. absurd h;
             last = λ c h. let few = fits.cores in let who : core ≡ c = cc in omega (arith, in_cores);
           }
@@ -270,7 +265,7 @@ module _ (b : Setting) (fits : Fits b) (now : ℕ → Word) (s : State) (g g' : 
             record {
               still = λ w d m e. both_ways false refl e;
               covered = λ w d lock m e. absurd (both_ways false refl e);
-              cores = λ lock. record { holder = (good.phased.cores lock).holder; queue = (good.phased.cores lock).queue; last = λ c h. let z : ◌≡◌ {A = ℕ} 0 1 = cc in omega arith };
+              cores = λ lock. record { holder = (good.phased.cores lock).holder; queue = (good.phased.cores lock).queue; last = λ c h. absurd cc };
             };
         long = rw k.long good.long;
       }

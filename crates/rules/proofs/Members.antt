@@ -30,7 +30,7 @@ pub lt_or_eq : (j m : ℕ) → j < suc m → (j < m) ⊎ (j ≡ m)
 lt_or_eq j m h = grind arith
 
 pub in_below : (i n : ℕ) → i < n → In i (below n)
-in_below i zero l = let no_way : ⊥ = omega arith in absurd no_way
+in_below i zero l = absurd (omega arith)
 in_below i (suc n) l =
     ⊎_elim (λ h. in_left i (below n) (n ∷ []) (in_below i n h)) (λ e. in_right i (below n) (n ∷ []) (inl e)) (lt_or_eq i n l)
 

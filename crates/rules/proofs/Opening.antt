@@ -14,7 +14,7 @@ use Rattle.rules.proofs.Walking.{Moment}
 -- a result that is accepted passed its test
 pub passed : {X Y : Type 0} (t : Bool) (r : Result X Y) (y : Y) (x : X) → cond t r (Err y) ≡ Ok x → (t ≡ true) × (r ≡ Ok x)
 passed true r y x e = (refl, e)
-passed false r y x e = let z : ◌≡◌ {A = ℕ} 0 1 = cc in let no_way : ⊥ = omega arith in absurd no_way
+passed false r y x e = absurd cc
 
 -- opening keeps the length and every value, and takes the marks off below the size
 pub opened_length : (n : ℕ) (page : List Word) → length (opened n page) ≡ length page
@@ -24,7 +24,7 @@ opened_length (suc n) (x ∷ xs) = ap suc (opened_length n xs)
 
 pub opened_at : (n : ℕ) (page : List Word) (w : ℕ) → w < n → get_or (opened n page) w blank_word ≡ unmarked (get_or page w blank_word)
 opened_at n [] w l = refl
-opened_at zero (x ∷ xs) w l = let no_way : ⊥ = omega arith in absurd no_way
+opened_at zero (x ∷ xs) w l = absurd (omega arith)
 opened_at (suc n) (x ∷ xs) zero l = refl
 opened_at (suc n) (x ∷ xs) (suc w) l = opened_at n xs w (omega arith)
 
@@ -49,11 +49,9 @@ module _ (f : Five) (page : List Word) (ok : checked f ≡ Ok f) where
       record {
         sound =
             record {
-              owned = λ w c e. let z : ◌≡◌ {A = ℕ} 0 1 = cc in let no_way : ⊥ = omega arith in absurd no_way;
+              owned = λ w c e. absurd cc;
               mine = λ c i w x e. grind arith;
-              placed = λ c i w x e. grind arith;
-              inside = λ c i w x e. grind arith;
-              ranged = λ c i w x e. grind arith;
+              stands = λ c i w x e. grind arith;
               home = λ w e. refl;
               seen = λ c w x e. grind arith;
             };
@@ -61,7 +59,7 @@ module _ (f : Five) (page : List Word) (ok : checked f ≡ Ok f) where
             record {
               still = λ w d m e. both_ways false refl e;
               covered = λ w d lock m e. absurd (both_ways false refl e);
-              cores = λ lock. record { holder = λ c e. let z : ◌≡◌ {A = ℕ} 0 1 = cc in omega arith; queue = λ c h. absurd h; last = λ c e. let z : ◌≡◌ {A = ℕ} 0 1 = cc in omega arith };
+              cores = λ lock. record { holder = λ c e. absurd cc; queue = λ c h. absurd h; last = λ c e. absurd cc };
             };
         long = rw opened_length (omega arith);
       }

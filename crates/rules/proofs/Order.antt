@@ -2,14 +2,16 @@
 -- Else, of one core, its own calls would disagree; and of two cores, both accesses would lie in one phase under one plan:
 -- where a read_only strip refuses the store, in a written strip the first run shows a race, and in a locked strip the same
 -- cores have released the lock before both, so that both are by the one holder. Assumes nothing.
-use Rattle.std.proofs.Common.{◌≡◌, ℕ, ◌+◌, ◌-◌, ◌/◌, ◌^◌, ◌<◌, ◌≤◌, Bool, true, false, cond, not, eqb, leb, List, [], ◌∷◌, ◌++◌, length, is_some, Some, None, fold, Option, sym, refl, ap, ◌∙◌, subst, ⊎_elim, append_assoc, mod-lt, arith, lit<, length-append}
+use Rattle.std.proofs.Common.{◌≡◌, ℕ, ◌+◌, ◌/◌, ◌^◌, ◌<◌, ◌≤◌, Bool, true, false, cond, List, [], ◌∷◌, ◌++◌, length, Some, None, fold, Option, sym, refl, ap, ◌∙◌, subst, ⊎_elim, append_assoc, mod-lt, arith, lit<, length-append}
+use Rattle.std.proofs.lemmas.List.Sums.{fold-append}
+use Rattle.std.proofs.lemmas.List.Concat.{flat_map-append}
+use Rattle.std.proofs.lemmas.Option.{same_Some}
 use Rattle.std.proofs.lemmas.List.{append-nil, append_cancel_left, nil_from_length}
-use Rattle.std.proofs.lemmas.Bool.{eq-eqb, cases_eq, both_ways, cond-true}
+use Rattle.std.proofs.lemmas.Bool.{eq-eqb, cases_eq, both_ways}
 use Rattle.call.specs.Figures.{Five, strip_of}
 use Rattle.call.specs.declared.call.Call.{Call}
 use Rattle.call.specs.declared.call.Call.TheVariants as call
 use Rattle.call.specs.declared.refusal.Access.TheVariants.{Store}
-use Rattle.call.specs.declared.refusal.Refusal.{Refusal}
 use Rattle.rules.specs.Histories.{accepted, refused_with, store_of, Written, Wanted, plan_of, acquirers, releasers, concerns, calls_of, entered_by, ledger_of}
 use Rattle.rules.specs.Laws.{SameOrder}
 use Rattle.rules.specs.Plans.{Mode, read_only, written, locked, bits_of, mode_of_bits, mode_of, is_read_only}
@@ -18,14 +20,13 @@ use Rattle.rules.specs.Runs.{Event, History, Ran}
 use Rattle.rules.specs.State.{Ledger, Setting, setting}
 use Rattle.rules.specs.Steps.{entered}
 use Rattle.rules.proofs.Accesses.{first_none, no_race, only_own, stored_in, stored_after_load, stored_before, stored_now}
-use Rattle.rules.proofs.Equal.{folded_append}
 use Rattle.rules.proofs.Holders.{same_beginning, holders_begin}
 use Rattle.rules.proofs.Invariant.{not_shut_out}
 use Rattle.rules.proofs.Own.{AllAccepted, all_accepted, accepted_front, own_releases, releases_own, plans, plans_in, plans_of, plans_own, last_plan, plan_told}
-use Rattle.rules.proofs.Splits.{Spot, Placed, earlier, same, later, two_splits, joined_append}
+use Rattle.rules.proofs.Splits.{Spot, Placed, earlier, same, later, two_splits}
 use Rattle.rules.proofs.Turns.{Legal, legal, turn, line}
 use Rattle.rules.proofs.Unrefused.{load_passes, store_passes}
-use Rattle.rules.proofs.Walking.{same_some}
+use Rattle.rules.proofs.Walking.{entered_accepted}
 
 -- ── accesses ──
 
@@ -33,11 +34,7 @@ use Rattle.rules.proofs.Walking.{same_some}
 abbrev pub access_of : Call → Option Wanted
 access_of (call.Load core word) = Some (record { core = core; word = word })
 access_of (call.Store core word value) = Some (record { core = core; word = word })
-access_of (call.Evict core word) = None
-access_of (call.Acquire core lock) = None
-access_of (call.Release core lock) = None
-access_of (call.Phase plan) = None
-access_of call.Settle = None
+access_of _ = None
 
 -- what an accepted access tells: in a locked strip the core holds the lock, in a written strip no other core has stored the word
 record Accesses (f : Five) (l : Ledger) (core word : ℕ) : Type 0 where
@@ -61,62 +58,38 @@ accesses b l (call.Store core word value) a e ok =
       by_holder = λ lock m. not_shut_out l (mode_of b.figures l.plan word) core lock m p.open_to;
       alone = λ m. no_race Store (earliest Store core word l.accesses) (first_none _ _ (ap (λ (x : Mode). store_race x l.accesses core word) (sym m) ∙ p.unraced)).0;
     }
-accesses b l (call.Evict core word) a e ok = grind arith
-accesses b l (call.Acquire core lock) a e ok = grind arith
-accesses b l (call.Release core lock) a e ok = grind arith
-accesses b l (call.Phase plan) a e ok = grind arith
-accesses b l call.Settle a e ok = grind arith
+accesses b l _ a e ok = grind arith
 
 pub access_below : (b : Setting) (l : Ledger) (k : Call) (a : Wanted) → access_of k ≡ Some a → refusal b l k ≡ None → a.core < b.figures.cores
 access_below b l (call.Load core word) a e ok =
-    let eq : record { core = core; word = word } ≡ a = cc in
-    subst (λ (x : Wanted). x.core < b.figures.cores) eq (load_passes b l core word ok).in_cores
+    grind (arith, (load_passes b l core word ok).in_cores)
 access_below b l (call.Store core word value) a e ok =
-    let eq : record { core = core; word = word } ≡ a = cc in
-    subst (λ (x : Wanted). x.core < b.figures.cores) eq (store_passes b l core word value ok).in_cores
-access_below b l (call.Evict core word) a e ok = grind arith
-access_below b l (call.Acquire core lock) a e ok = grind arith
-access_below b l (call.Release core lock) a e ok = grind arith
-access_below b l (call.Phase plan) a e ok = grind arith
-access_below b l call.Settle a e ok = grind arith
+    grind (arith, (store_passes b l core word value ok).in_cores)
+access_below b l _ a e ok = grind arith
 
 pub store_tells : (k : Call) (s : Written) → store_of k ≡ Some s → k ≡ call.Store s.core s.word s.value
-store_tells (call.Load core word) s e = grind arith
 store_tells (call.Store core word value) s e =
-    let eq : record { core = core; word = word; value = value } ≡ s = cc in
-    λ i. call.Store (eq i).core (eq i).word (eq i).value
-store_tells (call.Evict core word) s e = grind arith
-store_tells (call.Acquire core lock) s e = grind arith
-store_tells (call.Release core lock) s e = grind arith
-store_tells (call.Phase plan) s e = grind arith
-store_tells call.Settle s e = grind arith
+    grind arith
+store_tells _ s e = grind arith
 
-pub store_accesses : (k : Call) (s : Written) → store_of k ≡ Some s → access_of k ≡ Some (record { core = s.core; word = s.word })
+-- the core and the word of a store
+abbrev pub used_by : Written → Wanted
+used_by s = record { core = s.core; word = s.word }
+
+pub store_accesses : (k : Call) (s : Written) → store_of k ≡ Some s → access_of k ≡ Some (used_by s)
 store_accesses k s e = ap access_of (store_tells k s e)
 
 -- an access is one of its core's calls
 pub access_concerns : (k : Call) (a : Wanted) → access_of k ≡ Some a → concerns a.core k ≡ true
-access_concerns (call.Load core word) a e = let who : core ≡ a.core = ap (λ (x : Option Wanted). core_in x core) e in eq-eqb core a.core who
-  where
-    core_in : Option Wanted → ℕ → ℕ
-    core_in None d = d
-    core_in (Some x) d = x.core
-access_concerns (call.Store core word value) a e = let who : core ≡ a.core = ap (λ (x : Option Wanted). core_in x core) e in eq-eqb core a.core who
-  where
-    core_in : Option Wanted → ℕ → ℕ
-    core_in None d = d
-    core_in (Some x) d = x.core
-access_concerns (call.Evict core word) a e = grind arith
-access_concerns (call.Acquire core lock) a e = grind arith
-access_concerns (call.Release core lock) a e = grind arith
-access_concerns (call.Phase plan) a e = grind arith
-access_concerns call.Settle a e = grind arith
+access_concerns (call.Load core word) a e = grind (arith, eq-eqb core a.core)
+access_concerns (call.Store core word value) a e = grind (arith, eq-eqb core a.core)
+access_concerns _ a e = grind arith
 
 -- ── a store of this phase stays among its accesses ──
 
 both_empty : {X : Type 0} (xs ys : List X) → xs ++ ys ≡ [] → (xs ≡ []) × (ys ≡ [])
 both_empty [] ys e = (refl, e)
-both_empty (x ∷ xs) ys e = let z : ◌≡◌ {A = ℕ} 0 1 = cc in let no_way : ⊥ = omega arith in absurd no_way
+both_empty (x ∷ xs) ys e = absurd cc
 
 stays_stored : (d w : ℕ) (l : Ledger) (h : History) → plans_of h ≡ [] → stored_in l.accesses d w ≡ true → stored_in (fold entered_by l h).accesses d w ≡ true
 stays_stored d w l [] none st = st
@@ -125,15 +98,10 @@ stays_stored d w l (e ∷ h) none st = stays_stored d w (entered_by l e) h (both
     entered_stays : (k : Call) → e.call ≡ k → stored_in (entered l k).accesses d w ≡ true
     entered_stays (call.Load core word) q = stored_after_load l.accesses core word d w ∙ st
     entered_stays (call.Store core word value) q = stored_before l.accesses core word d w st
-    entered_stays (call.Evict core word) q = st
-    entered_stays (call.Acquire core lock) q = st
-    entered_stays (call.Release core lock) q = st
     entered_stays (call.Phase plan) q =
         let empty : plan ∷ [] ≡ [] = ap (λ (k : Call). plans_in (plan_of k)) (sym q) ∙ (both_empty (plans_in (plan_of e.call)) (plans_of h) none).0 in
-        let z : ◌≡◌ {A = ℕ} 0 1 = cc in
-        let no_way : ⊥ = omega arith in
-        absurd no_way
-    entered_stays call.Settle q = st
+        absurd cc
+    entered_stays _ q = st
 
     go : (t : Bool) → stored_in (cond t (entered l e.call) l).accesses d w ≡ true
     go true = entered_stays e.call refl
@@ -149,7 +117,7 @@ pub record Twins (c : ℕ) {h k : History} (s : Spot h) (t : Spot k) : Type 0 wh
 -- one of the core's calls more makes its calls longer
 longer : (c : ℕ) (a : History) (e : Event) (m : History) → concerns c e.call ≡ true → length (calls_of c a) < length (calls_of c (a ++ (e ∷ m)))
 longer c a e m t =
-    let whole = ap length (joined_append _ a (e ∷ m)) ∙ length-append (calls_of c a) (calls_of c (e ∷ m)) in
+    let whole = ap length (flat_map-append _ a (e ∷ m)) ∙ length-append (calls_of c a) (calls_of c (e ∷ m)) in
     let here : length (calls_of c (e ∷ m)) ≡ 1 + length (calls_of c m) = ap (λ (b : Bool). length (cond b (e.call ∷ []) [] ++ calls_of c m)) t ∙ omega arith in
     omega arith
 
@@ -159,12 +127,7 @@ no_more xs ys l = let whole = length-append xs ys in nil_from_length ys (omega a
 
 -- four bits name one of eight locks
 locked_below : (bits lock : ℕ) → bits < 16 → mode_of_bits bits ≡ locked lock → lock < 8
-locked_below bits lock small e = go (eqb bits 0) (leb 8 bits) e
-  where
-    go : (t u : Bool) → cond t read_only (cond u (locked (bits - 8)) written) ≡ locked lock → lock < 8
-    go true u q = grind arith
-    go false true q = let eq : bits - 8 ≡ lock = cc in omega arith
-    go false false q = grind arith
+locked_below bits lock small e = grind arith
 
 -- the calls before a spot were accepted
 pub before_ok : (h : History) → ((before : History) (e : Event) (after : History) → h ≡ before ++ (e ∷ after) → refused_with e.answer ≡ None) → (p : Spot h) → AllAccepted p.before
@@ -185,7 +148,7 @@ same_releasers r q order c lock below X Y place holds_x holds_y =
 
 module _ (r q : Ran) (order : SameOrder r q) (S T : Spot r.history) (S' T' : Spot q.history) (s : Written) (a : Wanted) (stores : store_of S.event.call ≡ Some s) (uses : access_of T.event.call ≡ Some a) (one_word : s.word ≡ a.word) (twin_s : Twins s.core S S') (twin_t : Twins a.core T T') (M : History) (first : T.before ≡ S.before ++ (S.event ∷ M)) where
   stores_concerns : concerns s.core S.event.call ≡ true
-  stores_concerns = access_concerns S.event.call (record { core = s.core; word = s.word }) (store_accesses S.event.call s stores)
+  stores_concerns = access_concerns S.event.call (used_by s) (store_accesses S.event.call s stores)
 
   -- of one core, its own calls would disagree
   not_one_core : s.core ≡ a.core → length (calls_of a.core T'.before) ≤ length (calls_of a.core S'.before) → ⊥
@@ -218,8 +181,8 @@ module _ (r q : Ran) (order : SameOrder r q) (S T : Spot r.history) (S' T' : Spo
 
     no_plans : plans_of (S.event ∷ M) ≡ []
     no_plans =
-        let there = ap length (ap plans_of late ∙ joined_append _ T'.before (T'.event ∷ M')) ∙ length-append (plans_of T'.before) (plans_of (T'.event ∷ M')) in
-        let here = ap plans_of first ∙ joined_append _ S.before (S.event ∷ M) in
+        let there = ap length (ap plans_of late ∙ flat_map-append _ T'.before (T'.event ∷ M')) ∙ length-append (plans_of T'.before) (plans_of (T'.event ∷ M')) in
+        let here = ap plans_of first ∙ flat_map-append _ S.before (S.event ∷ M) in
         let s_len = ap length s_plans in
         let t_len = ap length t_plans in
         let h_len = ap length here in
@@ -227,7 +190,7 @@ module _ (r q : Ran) (order : SameOrder r q) (S T : Spot r.history) (S' T' : Spo
 
     one_plans : plans_of T.before ≡ plans_of S.before
     one_plans =
-        ap plans_of first ∙ (joined_append _ S.before (S.event ∷ M) ∙ (ap (λ (k : List ℕ). plans_of S.before ++ k) no_plans ∙ append-nil (plans_of S.before)))
+        ap plans_of first ∙ (flat_map-append _ S.before (S.event ∷ M) ∙ (ap (λ (k : List ℕ). plans_of S.before ++ k) no_plans ∙ append-nil (plans_of S.before)))
 
     -- the plan in force at the four moments
     abbrev plan : ℕ
@@ -247,13 +210,13 @@ module _ (r q : Ran) (order : SameOrder r q) (S T : Spot r.history) (S' T' : Spo
 
     -- what the four accesses tell
     at_s : Accesses r.figures (ledger_of S.before) s.core s.word
-    at_s = accesses br (ledger_of S.before) S.event.call (record { core = s.core; word = s.word }) (store_accesses S.event.call s stores) (ok_r.passes S.before S.event S.after S.stands)
+    at_s = accesses br (ledger_of S.before) S.event.call (used_by s) (store_accesses S.event.call s stores) (ok_r.passes S.before S.event S.after S.stands)
 
     at_t : Accesses r.figures (ledger_of T.before) a.core a.word
     at_t = accesses br (ledger_of T.before) T.event.call a uses (ok_r.passes T.before T.event T.after T.stands)
 
     at_s' : Accesses q.figures (ledger_of S'.before) s.core s.word
-    at_s' = accesses bq (ledger_of S'.before) S'.event.call (record { core = s.core; word = s.word }) (store_accesses S'.event.call s (ap store_of (sym twin_s.call) ∙ stores)) (ok_q.passes S'.before S'.event S'.after S'.stands)
+    at_s' = accesses bq (ledger_of S'.before) S'.event.call (used_by s) (store_accesses S'.event.call s (ap store_of (sym twin_s.call) ∙ stores)) (ok_q.passes S'.before S'.event S'.after S'.stands)
 
     at_t' : Accesses q.figures (ledger_of T'.before) a.core a.word
     at_t' = accesses bq (ledger_of T'.before) T'.event.call a (ap access_of (sym twin_t.call) ∙ uses) (ok_q.passes T'.before T'.event T'.after T'.stands)
@@ -289,8 +252,7 @@ module _ (r q : Ran) (order : SameOrder r q) (S T : Spot r.history) (S' T' : Spo
 
         entered_here : entered_by (ledger_of S.before) S.event ≡ entered (ledger_of S.before) (call.Store s.core s.word s.value)
         entered_here =
-            cond-true (accepted S.event) (entered (ledger_of S.before) S.event.call) (ledger_of S.before) (ap (λ (o : Option Refusal). not (is_some o)) (ok_r.accepts S.before S.event S.after S.stands))
-            ∙ ap (entered (ledger_of S.before)) k
+            entered_accepted (ledger_of S.before) S.event (ok_r.accepts S.before S.event S.after S.stands) ∙ ap (entered (ledger_of S.before)) k
 
         in_s : stored_in (entered_by (ledger_of S.before) S.event).accesses s.core a.word ≡ true
         in_s =
@@ -301,7 +263,7 @@ module _ (r q : Ran) (order : SameOrder r q) (S T : Spot r.history) (S' T' : Spo
         among : stored_in (ledger_of T.before).accesses s.core a.word ≡ true
         among =
             ap (λ (h : History). stored_in (ledger_of h).accesses s.core a.word) first
-            ∙ (ap (λ (l : Ledger). stored_in l.accesses s.core a.word) (folded_append entered_by _ S.before (S.event ∷ M))
+            ∙ (ap (λ (l : Ledger). stored_in l.accesses s.core a.word) (fold-append entered_by _ S.before (S.event ∷ M))
             ∙ stays_stored s.core a.word (entered_by (ledger_of S.before) S.event) M (both_empty (plans_in (plan_of S.event.call)) (plans_of M) no_plans).1 in_s)
 
     -- in a locked strip both accesses would be by the one holder
@@ -325,15 +287,15 @@ module _ (r q : Ran) (order : SameOrder r q) (S T : Spot r.history) (S' T' : Spo
 
         none_between : releasers lock (S.event ∷ M) ≡ []
         none_between =
-            let there = ap length (ap (releasers lock) late ∙ joined_append _ T'.before (T'.event ∷ M')) ∙ length-append (releasers lock T'.before) (releasers lock (T'.event ∷ M')) in
-            let here = ap length (ap (releasers lock) first ∙ joined_append _ S.before (S.event ∷ M)) in
+            let there = ap length (ap (releasers lock) late ∙ flat_map-append _ T'.before (T'.event ∷ M')) ∙ length-append (releasers lock T'.before) (releasers lock (T'.event ∷ M')) in
+            let here = ap length (ap (releasers lock) first ∙ flat_map-append _ S.before (S.event ∷ M)) in
             let s_len = ap length s_releasers in
             let t_len = ap length t_releasers in
             no_more (releasers lock S.before) (releasers lock (S.event ∷ M)) (omega arith)
 
         one_releasers : releasers lock T.before ≡ releasers lock S.before
         one_releasers =
-            ap (releasers lock) first ∙ (joined_append _ S.before (S.event ∷ M) ∙ (ap (λ (k : List ℕ). releasers lock S.before ++ k) none_between ∙ append-nil (releasers lock S.before)))
+            ap (releasers lock) first ∙ (flat_map-append _ S.before (S.event ∷ M) ∙ (ap (λ (k : List ℕ). releasers lock S.before ++ k) none_between ∙ append-nil (releasers lock S.before)))
 
         one_holder : s.core ≡ a.core
         one_holder =
@@ -343,7 +305,7 @@ module _ (r q : Ran) (order : SameOrder r q) (S T : Spot r.history) (S' T' : Spo
             let queue_t = ((ledger_of T.before).locks lock).queue in
             let got_s : acquirers lock S.before ≡ releasers lock S.before ++ (s.core ∷ queue_s) = turn_s.turns ∙ ap (λ (o : Option ℕ). releasers lock S.before ++ line (record { holder = o; queue = queue_s; last = None })) holds_s in
             let got_t : acquirers lock T.before ≡ releasers lock T.before ++ (a.core ∷ queue_t) = turn_t.turns ∙ ap (λ (o : Option ℕ). releasers lock T.before ++ line (record { holder = o; queue = queue_t; last = None })) holds_t in
-            let from_s : acquirers lock T.before ≡ releasers lock S.before ++ (s.core ∷ (queue_s ++ acquirers lock (S.event ∷ M))) = ap (acquirers lock) first ∙ (joined_append _ S.before (S.event ∷ M) ∙ (ap (λ (k : List ℕ). k ++ acquirers lock (S.event ∷ M)) got_s ∙ append_assoc (releasers lock S.before) (s.core ∷ queue_s) (acquirers lock (S.event ∷ M)))) in
+            let from_s : acquirers lock T.before ≡ releasers lock S.before ++ (s.core ∷ (queue_s ++ acquirers lock (S.event ∷ M))) = ap (acquirers lock) first ∙ (flat_map-append _ S.before (S.event ∷ M) ∙ (ap (λ (k : List ℕ). k ++ acquirers lock (S.event ∷ M)) got_s ∙ append_assoc (releasers lock S.before) (s.core ∷ queue_s) (acquirers lock (S.event ∷ M)))) in
             let from_t : acquirers lock T.before ≡ releasers lock S.before ++ (a.core ∷ queue_t) = got_t ∙ ap (λ (k : List ℕ). k ++ (a.core ∷ queue_t)) one_releasers in
             let tails = append_cancel_left (releasers lock S.before) (s.core ∷ (queue_s ++ acquirers lock (S.event ∷ M))) (a.core ∷ queue_t) (sym from_s ∙ from_t) in
             let eq : s.core ≡ a.core = cc in
@@ -364,7 +326,7 @@ module _ (r q : Ran) (order : SameOrder r q) (S T : Spot r.history) (S' T' : Spo
       go (earlier M' e) = (M', e)
       go (same e x) =
           let one_call : S.event.call ≡ T.event.call = twin_s.call ∙ (ap (λ (k : Event). k.call) x ∙ sym twin_t.call) in
-          let both = same_some (record { core = s.core; word = s.word }) a (sym (store_accesses S.event.call s stores) ∙ (ap access_of one_call ∙ uses)) in
+          let both = same_Some (used_by s) a (sym (store_accesses S.event.call s stores) ∙ (ap access_of one_call ∙ uses)) in
           let equal = ap (λ (h : History). length (calls_of a.core h)) e in
           absurd (not_one_core (ap (λ (k : Wanted). k.core) both) (omega arith))
       go (later M' e) =

@@ -1,20 +1,20 @@
 -- What a core's own calls with the phase calls decide, in a history without a refusal: how often it released a lock, how many
 -- stores it has made, and the plan in force. And the call at a place among them stands in the history. Assumes nothing.
-use Rattle.std.proofs.Common.{◌≡◌, ℕ, ◌+◌, Bool, true, false, cond, not, eqb, List, [], ◌∷◌, ◌++◌, is_some, Some, None, fold, Option, sym, refl, ap, ◌∙◌, zero-add, arith}
+use Rattle.std.proofs.Common.{◌≡◌, ℕ, ◌+◌, Bool, true, false, cond, eqb, List, [], ◌∷◌, ◌++◌, is_some, Some, None, fold, Option, sym, refl, ap, ◌∙◌, inl, inr, ⊎_elim, zero-add, arith}
 use Rattle.std.specs.List.{flat_map}
-use Rattle.std.proofs.lemmas.Bool.{eqb-true, eqb-false, cond-true, cond-false, cases_Bool, or_parts}
+use Rattle.std.proofs.lemmas.Bool.Decides.{nat_tests}
+use Rattle.std.proofs.lemmas.Bool.{cond-true, cond-false, cases_Bool, or_parts}
 use Rattle.call.specs.Calls.{caller_of}
 use Rattle.call.specs.declared.call.Call.{Call}
 use Rattle.call.specs.declared.call.Call.TheVariants as call
-use Rattle.call.specs.declared.refusal.Refusal.{Refusal}
-use Rattle.rules.specs.Histories.{accepted, refused_with, stored, store_of, Written, released, release_of, plan_of, Asked, cores_for, releasers, concerns, calls_of, Tracked, track_by, tracked, entered_by, ledger_of}
+use Rattle.rules.specs.Histories.{refused_with, stored, store_of, Written, released, release_of, plan_of, Asked, cores_for, releasers, concerns, calls_of, Tracked, track_by, tracked, entered_by, ledger_of}
 use Rattle.rules.specs.Runs.{Event, History}
 use Rattle.rules.specs.State.{Ledger}
 use Rattle.rules.specs.Steps.{entered}
 use Rattle.rules.proofs.Holders.{times, times_append}
-use Rattle.rules.proofs.Splits.{Spot}
+use Rattle.rules.proofs.Splits.{Spot, OneOrNone, source}
 use Rattle.rules.proofs.Tables.{upd_cases}
-use Rattle.rules.proofs.Walking.{of_unrefused}
+use Rattle.rules.proofs.Walking.{of_unrefused, entered_accepted}
 
 -- every call of the history was accepted
 abbrev pub AllAccepted : History → Type 0
@@ -45,17 +45,12 @@ own_releases c lock [] = 0
 own_releases c lock (k ∷ ks) = times c (cores_for lock (release_of k)) + own_releases c lock ks
 
 quiet_release : (c lock : ℕ) (k : Call) → eqb (caller_of k) c ≡ false → times c (cores_for lock (release_of k)) ≡ 0
-quiet_release c lock (call.Load core word) n = refl
-quiet_release c lock (call.Store core word value) n = refl
-quiet_release c lock (call.Evict core word) n = refl
-quiet_release c lock (call.Acquire core j) n = refl
 quiet_release c lock (call.Release core j) n = go (eqb j lock)
   where
     go : (t : Bool) → times c (cond t (core ∷ []) []) ≡ 0
-    go true = ap (λ (b : Bool). cond {A = ℕ} b 1 0 + 0) n
+    go true = ap (λ (b : Bool). 0 + cond {A = ℕ} b 1 0) n
     go false = refl
-quiet_release c lock (call.Phase plan) n = refl
-quiet_release c lock call.Settle n = refl
+quiet_release c lock _ n = refl
 
 pub releases_own : (c lock : ℕ) (h : History) → AllAccepted h → times c (releasers lock h) ≡ own_releases c lock (calls_of c h)
 releases_own c lock [] ok = refl
@@ -83,18 +78,13 @@ own_stores c [] = 0
 own_stores c (k ∷ ks) = by_core c (store_of k) + own_stores c ks
 
 quiet_store : (c : ℕ) (k : Call) → eqb (caller_of k) c ≡ false → by_core c (store_of k) ≡ 0
-quiet_store c (call.Load core word) n = refl
 quiet_store c (call.Store core word value) n = ap (λ (b : Bool). cond {A = ℕ} b 1 0) n
-quiet_store c (call.Evict core word) n = refl
-quiet_store c (call.Acquire core j) n = refl
-quiet_store c (call.Release core j) n = refl
-quiet_store c (call.Phase plan) n = refl
-quiet_store c call.Settle n = refl
+quiet_store c _ n = refl
 
 tracked_one : (w c : ℕ) (o : Option Written) (t : Tracked) → (track_by w o t).counts c ≡ t.counts c + by_core c o
 tracked_one w c None t = omega arith
 tracked_one w c (Some s) t =
-    grind (arith, upd_cases t.counts s.core (t.counts s.core + 1) c, eqb-true s.core c, eqb-false s.core c, cond-true {A = ℕ} (eqb s.core c) 1 0, cond-false {A = ℕ} (eqb s.core c) 1 0, cases_Bool (eqb s.core c))
+    grind (arith, nat_tests, upd_cases t.counts s.core (t.counts s.core + 1) c)
 
 stores_on : (w c : ℕ) (t : Tracked) (h : History) → AllAccepted h → (fold (λ k e. track_by w (stored e) k) t h).counts c ≡ t.counts c + own_stores c (calls_of c h)
 stores_on w c t [] ok = omega arith
@@ -126,8 +116,7 @@ abbrev pub plans_of : History → List ℕ
 plans_of h = flat_map (λ e. plans_in (plan_of e.call)) h
 
 no_plan : (o : Option ℕ) → is_some o ≡ false → plans_in o ≡ []
-no_plan None e = refl
-no_plan (Some p) e = grind arith
+no_plan o e = grind arith
 
 pub plans_own : (c : ℕ) (h : History) → plans_of h ≡ plans (calls_of c h)
 plans_own c [] = refl
@@ -144,13 +133,8 @@ last_plan plan [] = plan
 last_plan plan (p ∷ ps) = last_plan p ps
 
 plan_after : (l : Ledger) (k : Call) → (entered l k).plan ≡ last_plan l.plan (plans_in (plan_of k))
-plan_after l (call.Load core word) = refl
-plan_after l (call.Store core word value) = refl
-plan_after l (call.Evict core word) = refl
-plan_after l (call.Acquire core j) = refl
-plan_after l (call.Release core j) = refl
 plan_after l (call.Phase plan) = refl
-plan_after l call.Settle = refl
+plan_after l _ = refl
 
 last_append : (p : ℕ) (xs ys : List ℕ) → last_plan p (xs ++ ys) ≡ last_plan (last_plan p xs) ys
 last_append p [] ys = refl
@@ -159,7 +143,7 @@ last_append p (x ∷ xs) ys = last_append x xs ys
 plan_on : (l : Ledger) (h : History) → AllAccepted h → (fold entered_by l h).plan ≡ last_plan l.plan (plans_of h)
 plan_on l [] ok = refl
 plan_on l (e ∷ h) ok =
-    let here : entered_by l e ≡ entered l e.call = cond-true (accepted e) (entered l e.call) l (ap (λ (o : Option Refusal). not (is_some o)) ok.0) in
+    let here = entered_accepted l e ok.0 in
     plan_on (entered_by l e) h ok.1
     ∙ (ap (λ (k : Ledger). last_plan k.plan (plans_of h)) here
     ∙ (ap (λ (p : ℕ). last_plan p (plans_of h)) (plan_after l e.call) ∙ sym (last_append l.plan (plans_in (plan_of e.call)) (plans_of h))))
@@ -174,29 +158,10 @@ pub record Found (c : ℕ) (k : Call) (mine : List Call) (h : History) : Type 0 
   pub place : calls_of c spot.before ≡ mine
   pub call : spot.event.call ≡ k
 
-found_under : (c : ℕ) (k : Call) (mine : List Call) (e : Event) (h : History) (front : List Call) → cond (concerns c e.call) (e.call ∷ []) [] ≡ front → Found c k mine h → Found c k (front ++ mine) (e ∷ h)
-found_under c k mine e h front q p =
-    record {
-      spot = record { before = e ∷ p.spot.before; event = p.spot.event; after = p.spot.after; stands = ap (λ (x : History). e ∷ x) p.spot.stands };
-      place = (λ i. q i ++ p.place i);
-      call = p.call;
-    }
+one_call : (c : ℕ) → OneOrNone (λ (e : Event). cond (concerns c e.call) (e.call ∷ []) [])
+one_call c e = ⊎_elim (λ t. inr (e.call, cond-true _ _ _ t)) (λ t. inl (cond-false _ _ _ t)) (cases_Bool (concerns c e.call))
 
 pub found : (c : ℕ) (h : History) (mine : List Call) (k : Call) (rest : List Call) → calls_of c h ≡ mine ++ (k ∷ rest) → Found c k mine h
-found c [] mine k rest e = absurd (never mine e)
-  where
-    never : (xs : List Call) → [] ≡ xs ++ (k ∷ rest) → ⊥
-    never [] q = grind arith
-    never (x ∷ xs) q = grind arith
-found c (e ∷ h) mine k rest q = go (concerns c e.call) refl (λ m s. found c h m k rest s)
-  where
-    own : (m : List Call) → concerns c e.call ≡ true → e.call ∷ calls_of c h ≡ m ++ (k ∷ rest) → ((n : List Call) → calls_of c h ≡ n ++ (k ∷ rest) → Found c k n h) → Found c k m (e ∷ h)
-    own [] t s more = record { spot = record { before = []; event = e; after = h; stands = refl }; place = refl; call = let eq : e.call ≡ k = cc in eq }
-    own (x ∷ m) t s more =
-        let head : e.call ≡ x = cc in
-        let tail : calls_of c h ≡ m ++ (k ∷ rest) = cc in
-        found_under c k m e h (x ∷ []) (ap (λ (b : Bool). cond b (e.call ∷ []) []) t ∙ ap (λ (y : Call). y ∷ []) head) (more m tail)
-
-    go : (t : Bool) → concerns c e.call ≡ t → ((n : List Call) → calls_of c h ≡ n ++ (k ∷ rest) → Found c k n h) → Found c k mine (e ∷ h)
-    go true t more = own mine t (sym (calls_step c e h true t) ∙ q) more
-    go false t more = found_under c k mine e h [] (ap (λ (b : Bool). cond b (e.call ∷ []) []) t) (more mine (sym (calls_step c e h false t) ∙ q))
+found c h mine k rest e =
+    let s = source (λ (e : Event). cond (concerns c e.call) (e.call ∷ []) []) (one_call c) h mine k rest e in
+    record { spot = s.spot; place = s.same; call = let one = s.gives in grind arith }

@@ -1,9 +1,12 @@
 -- The race that refusal 6 names, found in the history: the ledger's accesses are those of the events of this phase, in order,
 -- and the first of them that passes a test stands in the history. Assumes nothing.
-use Rattle.std.proofs.Common.{◌≡◌, ℕ, Bool, true, false, cond, not, ◌&&◌, ◌||◌, eqb, leb, List, [], ◌∷◌, ◌++◌, Some, None, Option, sym, refl, ap, ◌∙◌, subst, inl, inr, ⊎_elim, arith}
+use Rattle.std.proofs.Common.{◌≡◌, ℕ, Bool, true, false, cond, not, ◌&&◌, ◌||◌, eqb, leb, ◌⊎◌, List, [], ◌∷◌, ◌++◌, Some, None, Option, sym, refl, ap, ◌∙◌, subst, inl, inr, arith}
+use Rattle.std.proofs.lemmas.List.Sums.{fold_push}
+use Rattle.std.proofs.lemmas.Option.{none-some}
 use Rattle.std.specs.List.{flat_map}
 use Rattle.std.proofs.lemmas.List.{append-nil}
-use Rattle.std.proofs.lemmas.Bool.{eqb-true, eqb-false, and_parts, cond-true, cond-false, not-true}
+use Rattle.std.proofs.Math.Bool.{or-false}
+use Rattle.std.proofs.lemmas.Bool.{eqb-true, eqb-false, and_parts, cond-true, cond-false, not-true, both_ways}
 use Rattle.call.specs.declared.call.Call.{Call}
 use Rattle.call.specs.declared.call.Call.TheVariants as call
 use Rattle.call.specs.declared.refusal.Access.{Access}
@@ -13,16 +16,14 @@ use Rattle.call.specs.declared.refusal.Refusal.TheVariants.{NoCore, OutsideBoard
 use Rattle.rules.specs.Histories.{accepted, refused_with, begins, plan_of, touches, accessed, phase_by, this_phase, passes, other_access, entered_by, ledger_of}
 use Rattle.rules.specs.Laws.{RacesNamed}
 use Rattle.rules.specs.Plans.{Mode, read_only, written, locked, is_read_only, has_bad_mode}
-use Rattle.rules.specs.Refusals.{same_access, by_another, earliest, as_race, load_race, store_race, refusal, rows, mode, waits, holds, holds_some, some_held, shut_out}
+use Rattle.rules.specs.Refusals.{same_access, by_another, earliest, as_race, load_race, store_race, refusal, mode, waits, holds, holds_some, some_held, shut_out}
 use Rattle.rules.specs.Runs.{Event, History, Ran}
 use Rattle.rules.specs.State.{Accessed, Ledger, Setting, setting}
 use Rattle.rules.specs.Steps.{entered}
 use Rattle.rules.specs.Tables.{first, when, some_of}
 use Rattle.rules.proofs.Accesses.{some_of_append}
 use Rattle.rules.proofs.Fresh.{refusals_told}
-use Rattle.rules.proofs.Members.{In}
-use Rattle.rules.proofs.Splits.{along, joined_push}
-use Rattle.rules.proofs.Walking.{folded_push}
+use Rattle.rules.proofs.Splits.{along, joined_push, OneOrNone, Source, source}
 
 -- ── this phase's accesses ──
 
@@ -51,19 +52,16 @@ entered_accesses l c phase e is ok same = go c is
     go : (k : Call) → e.call ≡ k → (entered l k).accesses ≡ gathered (phase_by (begins e) phase e)
     go (call.Load core word) p = sym (stays (call.Load core word) p refl)
     go (call.Store core word value) p = sym (stays (call.Store core word value) p refl)
-    go (call.Evict core word) p = sym (stays (call.Evict core word) p refl ∙ append-nil l.accesses)
-    go (call.Acquire core lock) p = sym (stays (call.Acquire core lock) p refl ∙ append-nil l.accesses)
-    go (call.Release core lock) p = sym (stays (call.Release core lock) p refl ∙ append-nil l.accesses)
     go (call.Phase plan) p = sym (ap (λ (o : Option ℕ). gathered (phase_by o phase e)) (begins_is (call.Phase plan) p))
-    go call.Settle p = sym (stays call.Settle p refl ∙ append-nil l.accesses)
+    go c p = sym (stays c p refl ∙ append-nil l.accesses)
 
 pub accesses_told : (h : History) → (ledger_of h).accesses ≡ gathered (this_phase h)
 accesses_told h = along h (λ k. (ledger_of k).accesses ≡ gathered (this_phase k)) refl keep h [] (sym (append-nil h))
   where
     keep : (before : History) (e : Event) (after : History) → h ≡ before ++ (e ∷ after) → (ledger_of before).accesses ≡ gathered (this_phase before) → (ledger_of (before ++ (e ∷ []))).accesses ≡ gathered (this_phase (before ++ (e ∷ [])))
     keep before e after split same =
-        ap (λ (l : Ledger). l.accesses) (folded_push entered_by _ before e)
-        ∙ (go (accepted e) refl ∙ ap gathered (sym (folded_push _ _ before e)))
+        ap (λ (l : Ledger). l.accesses) (fold_push entered_by _ before e)
+        ∙ (go (accepted e) refl ∙ ap gathered (sym (fold_push _ _ before e)))
       where
         go : (t : Bool) → accepted e ≡ t → (cond t (entered (ledger_of before) e.call) (ledger_of before)).accesses ≡ gathered (phase_by (begins e) (this_phase before) e)
         go true ok = entered_accesses (ledger_of before) e.call (this_phase before) e refl ok same
@@ -85,10 +83,8 @@ record FirstAccess (access : Access) (core word named : ℕ) (all : List Accesse
   none : some_of (by_another access core word) front ≡ false
 
 same_access_tells : (a b : Access) → same_access a b ≡ true → a ≡ b
-same_access_tells Load Load e = refl
-same_access_tells Load Store e = grind arith
-same_access_tells Store Load e = grind arith
-same_access_tells Store Store e = refl
+same_access_tells Load _ e = grind arith
+same_access_tells Store _ e = grind arith
 
 first_access : (access : Access) (core word named : ℕ) (all : List Accessed) → earliest access core word all ≡ Some named → FirstAccess access core word named all
 first_access access core word named [] e = grind arith
@@ -108,38 +104,15 @@ first_access access core word named (a ∷ more) e = go (by_another access core 
         record { front = a ∷ r.front; back = r.back; stands = ap (λ (x : List Accessed). a ∷ x) r.stands; apart = r.apart; none = ap (λ (b : Bool). b || some_of (by_another access core word) r.front) t ∙ r.none }
 
 -- the event of an access in the history
-record EventOf (a : Accessed) (front : List Accessed) (h : History) : Type 0 where
-  before : History
-  event : Event
-  after : History
-  stands : h ≡ before ++ (event ∷ after)
-  is : accessed event ≡ Some a
-  same : gathered before ≡ front
-
-event_under : (a : Accessed) (front : List Accessed) (e : Event) (h : History) (own : List Accessed) → listed (accessed e) ≡ own → EventOf a front h → EventOf a (own ++ front) (e ∷ h)
-event_under a front e h own q p =
-    record { before = e ∷ p.before; event = p.event; after = p.after; stands = ap (λ (x : History). e ∷ x) p.stands; is = p.is; same = (λ i. q i ++ p.same i) }
-
-event_of : (h : History) (front : List Accessed) (a : Accessed) (back : List Accessed) → gathered h ≡ front ++ (a ∷ back) → EventOf a front h
-event_of [] front a back e = absurd (never front e)
+one_access : OneOrNone (λ (e : Event). listed (accessed e))
+one_access e = go (accessed e)
   where
-    never : (xs : List Accessed) → [] ≡ xs ++ (a ∷ back) → ⊥
-    never [] q = grind arith
-    never (x ∷ xs) q = grind arith
-event_of (e ∷ h) front a back q = go (accessed e) refl q (λ f s. event_of h f a back s)
-  where
-    own : (x : Accessed) (f : List Accessed) → accessed e ≡ Some x → x ∷ gathered h ≡ f ++ (a ∷ back) → ((g : List Accessed) → gathered h ≡ g ++ (a ∷ back) → EventOf a g h) → EventOf a f (e ∷ h)
-    own x [] t s later =
-        let eq : x ≡ a = cc in
-        record { before = []; event = e; after = h; stands = refl; is = t ∙ ap (λ (y : Accessed). Some y) eq; same = refl }
-    own x (y ∷ f) t s later =
-        let head : x ≡ y = cc in
-        let tail : gathered h ≡ f ++ (a ∷ back) = cc in
-        event_under a f e h (y ∷ []) (ap listed t ∙ ap (λ (k : Accessed). k ∷ []) head) (later f tail)
+    go : (o : Option Accessed) → (listed o ≡ []) ⊎ ((a : Accessed) × (listed o ≡ a ∷ []))
+    go None = inl refl
+    go (Some a) = inr (a, refl)
 
-    go : (o : Option Accessed) → accessed e ≡ o → listed (accessed e) ++ gathered h ≡ front ++ (a ∷ back) → ((f : List Accessed) → gathered h ≡ f ++ (a ∷ back) → EventOf a f h) → EventOf a front (e ∷ h)
-    go None t s later = event_under a front e h [] (ap listed t) (later front (ap (λ (k : Option Accessed). listed k ++ gathered h) (sym t) ∙ s))
-    go (Some x) t s later = own x front t (ap (λ (k : Option Accessed). listed k ++ gathered h) (sym t) ∙ s) later
+listed_tells : (o : Option Accessed) (a : Accessed) → listed o ≡ a ∷ [] → o ≡ Some a
+listed_tells o a e = grind arith
 
 -- a test of the accesses is one of their events
 some_gathered : (access : Access) (core word : ℕ) (h : History) → some_of (by_another access core word) (gathered h) ≡ some_of (other_access access core word) h
@@ -150,19 +123,11 @@ some_gathered access core word (e ∷ h) =
   where
     one : (o : Option Accessed) → some_of (by_another access core word) (listed o) ≡ passes (by_another access core word) o
     one None = refl
-    one (Some a) = go (by_another access core word a)
-      where
-        go : (t : Bool) → (t || false) ≡ t
-        go true = refl
-        go false = refl
+    one (Some a) = or-false (by_another access core word a)
 
 none_found : (access : Access) (core word : ℕ) (all : List Accessed) → earliest access core word all ≡ None → some_of (by_another access core word) all ≡ false
 none_found access core word [] e = refl
-none_found access core word (a ∷ more) e = go (by_another access core word a) e (λ k. none_found access core word more k)
-  where
-    go : (t : Bool) → cond t (Some a.core) (earliest access core word more) ≡ None → (earliest access core word more ≡ None → some_of (by_another access core word) more ≡ false) → (t || some_of (by_another access core word) more) ≡ false
-    go true k later = grind arith
-    go false k later = later k
+none_found access core word (a ∷ more) e = grind (arith, none_found access core word more)
 
 -- ── the row that names the race ──
 
@@ -173,36 +138,47 @@ record FoundRace (accesses : List Accessed) (c : Call) (named : ℕ) (kind : Acc
   found : earliest kind caller.core caller.word accesses ≡ Some named
   loads_last : kind ≡ Load → (caller.access ≡ Store) × (earliest Store caller.core caller.word accesses ≡ None)
 
--- the refusal of a call is one of its rows
-in_first : (rs : List (Option Refusal)) (y : Refusal) → first rs ≡ Some y → In (Some y) rs
-in_first [] y e = grind arith
-in_first (None ∷ rs) y e = inr (in_first rs y e)
-in_first (Some x ∷ rs) y e = inl (sym e)
+-- rows that are met by a test each, before the rest; and whether none of them names a race
+abbrev tested : List (Bool × Refusal) → List (Option Refusal) → List (Option Refusal)
+tested [] rest = rest
+tested (p ∷ ps) rest = when p.0 p.1 ∷ tested ps rest
 
--- and a row of another refusal names no race
-no_row : {X : Type 0} (t : Bool) (x y : Refusal) → (x ≡ y → ⊥) → Some y ≡ when t x → X
-no_row true x y n e = absurd (n (let eq : x ≡ y = cc in eq))
-no_row false x y n e = grind arith
+abbrev is_race : Refusal → Bool
+is_race (Race named kind) = true
+is_race _ = false
 
-only : (o : Option Refusal) (y : Refusal) → first (o ∷ []) ≡ Some y → o ≡ Some y
-only None y e = grind arith
-only (Some x) y e = e
+abbrev raceless : List (Bool × Refusal) → Bool
+raceless [] = true
+raceless (p ∷ ps) = not (is_race p.1) && raceless ps
+
+-- a race that comes first stands behind the rows that name none
+past : (ps : List (Bool × Refusal)) (rest : List (Option Refusal)) (named : ℕ) (kind : Access) → raceless ps ≡ true → first (tested ps rest) ≡ Some (Race named kind) → first rest ≡ Some (Race named kind)
+past [] rest named kind r e = e
+past ((false, x) ∷ ps) rest named kind r e = past ps rest named kind (and_parts (not (is_race x)) (raceless ps) r).1 e
+past ((true, x) ∷ ps) rest named kind r e =
+    let same : x ≡ Race named kind = cc in
+    absurd (both_ways (is_race x) (not-true (is_race x) (and_parts (not (is_race x)) (raceless ps) r).0) (ap is_race same))
+
+alone : (o : Option Refusal) (y : Refusal) → first (o ∷ []) ≡ Some y → o ≡ Some y
+alone o y e = grind arith
+
+only : (o : Option Refusal) (t : Bool) (y x : Refusal) → (y ≡ x → ⊥) → first (o ∷ when t x ∷ []) ≡ Some y → o ≡ Some y
+only o t y x n e = grind arith
 
 race_tells : (access : Access) (o : Option ℕ) (named : ℕ) (kind : Access) → as_race access o ≡ Some (Race named kind) → (o ≡ Some named) × (access ≡ kind)
 race_tells access None named kind e = grind arith
-race_tells access (Some c) named kind e = let a : c ≡ named = cc in let b : access ≡ kind = cc in (ap (λ (x : ℕ). Some x) a, b)
+race_tells access (Some c) named kind e = (cc, cc)
 
 load_found : (m : Mode) (accesses : List Accessed) (core word named : ℕ) (kind : Access) → load_race m accesses core word ≡ Some (Race named kind) → FoundRace accesses (call.Load core word) named kind
-load_found read_only accesses core word named kind e = grind arith
-load_found (locked lock) accesses core word named kind e = grind arith
 load_found written accesses core word named kind e =
     let t = race_tells Store (earliest Store core word accesses) named kind e in
     record {
       caller = record { core = core; word = word; access = Load };
       calls = refl;
       found = subst (λ (k : Access). earliest k core word accesses ≡ Some named) t.1 t.0;
-      loads_last = λ l. let z : ◌≡◌ {A = Access} Store Load = t.1 ∙ l in grind arith;
+      loads_last = λ l. absurd (cc (t.1 ∙ l));
     }
+load_found _ accesses core word named kind e = grind arith
 
 store_found : (m : Mode) (accesses : List Accessed) (core word value named : ℕ) (kind : Access) → store_race m accesses core word ≡ Some (Race named kind) → FoundRace accesses (call.Store core word value) named kind
 store_found read_only accesses core word value named kind e = grind arith
@@ -217,10 +193,10 @@ store_found written accesses core word value named kind e = go (earliest Store c
           caller = record { core = core; word = word; access = Store };
           calls = refl;
           found = subst (λ (x : Access). earliest x core word accesses ≡ Some named) what (s ∙ ap (λ (x : ℕ). Some x) who);
-          loads_last = λ l. let z : ◌≡◌ {A = Access} Store Load = what ∙ l in grind arith;
+          loads_last = λ l. absurd (cc (what ∙ l));
         }
     go None s k =
-        let t = race_tells Load (earliest Load core word accesses) named kind (only (as_race Load (earliest Load core word accesses)) (Race named kind) k) in
+        let t = race_tells Load (earliest Load core word accesses) named kind (alone (as_race Load (earliest Load core word accesses)) (Race named kind) k) in
         record {
           caller = record { core = core; word = word; access = Store };
           calls = refl;
@@ -230,23 +206,20 @@ store_found written accesses core word value named kind e = go (earliest Store c
 
 found_race : (b : Setting) (l : Ledger) (c : Call) (named : ℕ) (kind : Access) → refusal b l c ≡ Some (Race named kind) → FoundRace l.accesses c named kind
 found_race b l (call.Load core word) named kind e =
-    (⊎_elim (no_row (leb b.figures.cores core) NoCore (Race named kind) (λ x. grind arith)) (⊎_elim (no_row (leb b.size word) OutsideBoard (Race named kind) (λ x. grind arith)) (⊎_elim (no_row (waits l.locks core) Waiting (Race named kind) (λ x. grind arith)) (⊎_elim (no_row (shut_out l.locks (mode b l word) core) NotHolder (Race named kind) (λ x. grind arith)) (⊎_elim (λ here. load_found (mode b l word) l.accesses core word named kind (sym here)) (λ none. absurd none))))))
-    (in_first (rows b l (call.Load core word)) (Race named kind) e)
+    load_found (mode b l word) l.accesses core word named kind
+    (alone _ _ (past ((leb b.figures.cores core, NoCore) ∷ (leb b.size word, OutsideBoard) ∷ (waits l.locks core, Waiting) ∷ (shut_out l.locks (mode b l word) core, NotHolder) ∷ []) (load_race (mode b l word) l.accesses core word ∷ []) named kind refl e))
 found_race b l (call.Store core word value) named kind e =
-    (⊎_elim (no_row (leb b.figures.cores core) NoCore (Race named kind) (λ x. grind arith)) (⊎_elim (no_row (leb b.size word) OutsideBoard (Race named kind) (λ x. grind arith)) (⊎_elim (no_row (waits l.locks core) Waiting (Race named kind) (λ x. grind arith)) (⊎_elim (no_row (is_read_only (mode b l word)) ReadOnly (Race named kind) (λ x. grind arith)) (⊎_elim (no_row (shut_out l.locks (mode b l word) core) NotHolder (Race named kind) (λ x. grind arith)) (⊎_elim (λ here. store_found (mode b l word) l.accesses core word value named kind (sym here)) (⊎_elim (no_row (leb b.figures.allowance (l.counts core)) AllowanceSpent (Race named kind) (λ x. grind arith)) (λ none. absurd none))))))))
-    (in_first (rows b l (call.Store core word value)) (Race named kind) e)
+    store_found (mode b l word) l.accesses core word value named kind
+    (only _ (leb b.figures.allowance (l.counts core)) _ AllowanceSpent (λ x. grind arith)
+    (past ((leb b.figures.cores core, NoCore) ∷ (leb b.size word, OutsideBoard) ∷ (waits l.locks core, Waiting) ∷ (is_read_only (mode b l word), ReadOnly) ∷ (shut_out l.locks (mode b l word) core, NotHolder) ∷ []) (store_race (mode b l word) l.accesses core word ∷ when (leb b.figures.allowance (l.counts core)) AllowanceSpent ∷ []) named kind refl e))
 found_race b l (call.Evict core word) named kind e =
-    (⊎_elim (no_row (leb b.figures.cores core) NoCore (Race named kind) (λ x. grind arith)) (⊎_elim (no_row (leb b.size word) OutsideBoard (Race named kind) (λ x. grind arith)) (λ none. absurd none)))
-    (in_first (rows b l (call.Evict core word)) (Race named kind) e)
+    absurd (none-some _ (past ((leb b.figures.cores core, NoCore) ∷ (leb b.size word, OutsideBoard) ∷ []) [] named kind refl e))
 found_race b l (call.Acquire core lock) named kind e =
-    (⊎_elim (no_row (leb b.figures.cores core) NoCore (Race named kind) (λ x. grind arith)) (⊎_elim (no_row (waits l.locks core) Waiting (Race named kind) (λ x. grind arith)) (⊎_elim (no_row (leb 8 lock) NoLock (Race named kind) (λ x. grind arith)) (⊎_elim (no_row (holds_some l.locks core) HoldsLock (Race named kind) (λ x. grind arith)) (λ none. absurd none)))))
-    (in_first (rows b l (call.Acquire core lock)) (Race named kind) e)
+    absurd (none-some _ (past ((leb b.figures.cores core, NoCore) ∷ (waits l.locks core, Waiting) ∷ (leb 8 lock, NoLock) ∷ (holds_some l.locks core, HoldsLock) ∷ []) [] named kind refl e))
 found_race b l (call.Release core lock) named kind e =
-    (⊎_elim (no_row (leb b.figures.cores core) NoCore (Race named kind) (λ x. grind arith)) (⊎_elim (no_row (waits l.locks core) Waiting (Race named kind) (λ x. grind arith)) (⊎_elim (no_row (leb 8 lock) NoLock (Race named kind) (λ x. grind arith)) (⊎_elim (no_row (not (holds l.locks core lock)) NotHeld (Race named kind) (λ x. grind arith)) (λ none. absurd none)))))
-    (in_first (rows b l (call.Release core lock)) (Race named kind) e)
+    absurd (none-some _ (past ((leb b.figures.cores core, NoCore) ∷ (waits l.locks core, Waiting) ∷ (leb 8 lock, NoLock) ∷ (not (holds l.locks core lock), NotHeld) ∷ []) [] named kind refl e))
 found_race b l (call.Phase plan) named kind e =
-    (⊎_elim (no_row (has_bad_mode plan) BadMode (Race named kind) (λ x. grind arith)) (⊎_elim (no_row (some_held l.locks) LockHeld (Race named kind) (λ x. grind arith)) (λ none. absurd none)))
-    (in_first (rows b l (call.Phase plan)) (Race named kind) e)
+    absurd (none-some _ (past ((has_bad_mode plan, BadMode) ∷ (some_held l.locks, LockHeld) ∷ []) [] named kind refl e))
 found_race b l call.Settle named kind e = grind arith
 
 -- ── the law ──
@@ -257,12 +230,12 @@ races_named r before e after named kind split refused =
       caller = f.caller;
       calls = f.calls;
       other = a.apart;
-      earlier = v.before;
-      event = v.event;
-      later = v.after;
-      stands = v.stands;
-      names = v.is;
-      earliest = sym (some_gathered kind f.caller.core f.caller.word v.before) ∙ (ap (some_of (by_another kind f.caller.core f.caller.word)) v.same ∙ a.none);
+      earlier = v.spot.before;
+      event = v.spot.event;
+      later = v.spot.after;
+      stands = v.spot.stands;
+      names = listed_tells (accessed v.spot.event) _ v.gives;
+      earliest = sym (some_gathered kind f.caller.core f.caller.word v.spot.before) ∙ (ap (some_of (by_another kind f.caller.core f.caller.word)) v.same ∙ a.none);
       loads_last = λ l. let p = f.loads_last l in (p.0, sym (some_gathered Store f.caller.core f.caller.word (this_phase before)) ∙ (ap (some_of (by_another Store f.caller.core f.caller.word)) (sym (accesses_told before)) ∙ none_found Store f.caller.core f.caller.word (ledger_of before).accesses p.1));
     }
   where
@@ -272,5 +245,5 @@ races_named r before e after named kind split refused =
     a : FirstAccess kind f.caller.core f.caller.word named (ledger_of before).accesses
     a = first_access kind f.caller.core f.caller.word named (ledger_of before).accesses f.found
 
-    v : EventOf (record { core = named; word = f.caller.word; access = kind }) a.front (this_phase before)
-    v = event_of (this_phase before) a.front (record { core = named; word = f.caller.word; access = kind }) a.back (sym (accesses_told before) ∙ a.stands)
+    v : Source (λ (e : Event). listed (accessed e)) a.front (record { core = named; word = f.caller.word; access = kind }) (this_phase before)
+    v = source (λ (e : Event). listed (accessed e)) one_access (this_phase before) a.front (record { core = named; word = f.caller.word; access = kind }) a.back (sym (accesses_told before) ∙ a.stands)

@@ -1,15 +1,16 @@
 -- Each row of the rules keeps page, caches and owners sound, and a load gives the word that the history says.
 -- A load, a store or a write back is made of the small steps of Memories.antt; settle is the write back of each place in
 -- turn, and after it no word has an owner. Assumes nothing.
-use Rattle.std.proofs.Common.{◌≡◌, ℕ, ◌<◌, Bool, true, false, cond, eqb, ◌⊎◌, length, Some, None, Option, sym, refl, ap, ◌∙◌, subst, inl, inr, ⊎_elim, arith, length-set}
-use Rattle.std.proofs.lemmas.Bool.{eq-eqb, eqb-true, cond-true, cond-false}
+use Rattle.std.proofs.Common.{◌≡◌, ℕ, ◌<◌, Bool, true, false, cond, eqb, length, Some, None, Option, sym, refl, ap, ◌∙◌, subst, arith, length-set}
+use Rattle.std.proofs.lemmas.Bool.{eq-eqb, eqb-true, cond-true}
+use Rattle.std.proofs.lemmas.Bool.Decides.{nat_tests}
 use Rattle.call.specs.Figures.{Five, slot_of}
 use Rattle.word.specs.declared.word.Word.{Word}
 use Rattle.rules.specs.Effects as effect
 use Rattle.rules.specs.Effects.{Got, Put, Place, with_copy, write_back, write_back_by, word_in, fetch, fetch_into, fetch_by, load_row, hit, claim, claim_from, claim_by, store_row, evict_row, places, dropped, faded}
 use Rattle.rules.specs.State.{Copy, invalid, valid, registered, Memory, page_word, of_word, copy_of}
-use Rattle.rules.specs.Tables.{upd, upd2}
-use Rattle.rules.proofs.Memories.{Sound, Unregistered, Loose, write_back_sound, write_back_clears, dropped_sound, filled_sound, loose_unowned, loose_taken, claimed_sound}
+use Rattle.rules.specs.Tables.{upd}
+use Rattle.rules.proofs.Memories.{Sound, Unregistered, Loose, write_back_sound, write_back_clears, dropped_sound, filled_sound, loose_unowned, loose_taken, claimed_sound, stored_stands, stored_seen}
 use Rattle.rules.proofs.Tables.{upd_cases, upd2_cases}
 
 -- the page keeps its length
@@ -20,9 +21,8 @@ pub write_back_length : (m : Memory) (c i : ℕ) → SameLength m (write_back m 
 write_back_length m c i = go (m.copies c i)
   where
     go : (k : Copy) → SameLength m (write_back_by k m c i)
-    go invalid = refl
-    go (valid w x) = refl
     go (registered w x) = length-set m.page w x
+    go _ = refl
 
 -- a copy of the word itself
 pub of_word_same : (w : ℕ) (k : Copy) (x : Word) → k ≡ registered w x → of_word w k ≡ registered w x
@@ -30,14 +30,10 @@ of_word_same w k x e = ap (of_word w) e ∙ cond-true (eqb w w) (registered w x)
 
 -- what a look-up finds is in the slot
 pub found_registered : (w v : ℕ) (k : Copy) (x : Word) → of_word w k ≡ registered v x → k ≡ registered w x
-found_registered w v invalid x e = grind arith
-found_registered w v (valid u y) x e = grind (arith, cond-true (eqb u w) (valid u y) invalid, cond-false (eqb u w) (valid u y) invalid)
-found_registered w v (registered u y) x e = grind (arith, eqb-true u w, cond-true (eqb u w) (registered u y) invalid, cond-false (eqb u w) (registered u y) invalid)
+found_registered w v k x e = grind (arith, nat_tests)
 
 pub found_valid : (w v : ℕ) (k : Copy) (x : Word) → of_word w k ≡ valid v x → k ≡ valid w x
-found_valid w v invalid x e = grind arith
-found_valid w v (valid u y) x e = grind (arith, eqb-true u w, cond-true (eqb u w) (valid u y) invalid, cond-false (eqb u w) (valid u y) invalid)
-found_valid w v (registered u y) x e = grind (arith, cond-true (eqb u w) (registered u y) invalid, cond-false (eqb u w) (registered u y) invalid)
+found_valid w v k x e = grind (arith, nat_tests)
 
 module _ (f : Five) (now : ℕ → Word) (stale : ℕ → ℕ → Type 0) where
   -- a load gives the word as it is now, and leaves all sound
@@ -50,7 +46,7 @@ module _ (f : Five) (now : ℕ → Word) (stale : ℕ → ℕ → Type 0) where
   filled_loads m n core word x source e free len s =
       record {
         fresh = e;
-        sound = subst (λ (y : Word). Sound f now stale (with_copy n core (slot_of f word) (valid word y))) (sym e) (filled_sound f now stale n core (slot_of f word) free s word refl);
+        sound = subst (λ (y : Word). Sound f now stale (with_copy n core (slot_of f word) (valid word y))) (sym e) (filled_sound f now stale n core (slot_of f word) free s word);
         long = len;
       }
 
@@ -96,7 +92,7 @@ module _ (f : Five) (now : ℕ → Word) (stale : ℕ → ℕ → Type 0) where
       go invalid e = record { sound = s; long = refl }
       go (valid v x) e =
           let here = found_valid word v (m.copies core (slot_of f word)) x e in
-          let free : Unregistered m core (slot_of f word) = λ w y h. let z : valid word x ≡ registered w y = sym here ∙ h in grind arith in
+          let free : Unregistered m core (slot_of f word) = λ w y h. cc (sym here ∙ h) in
           record { sound = dropped_sound f now stale m core (slot_of f word) free s; long = refl }
       go (registered v x) e =
           record { sound = dropped_sound f now stale (write_back m core (slot_of f word)) core (slot_of f word) (write_back_clears f now stale m core (slot_of f word) s) (write_back_sound f now stale m core (slot_of f word) s); long = write_back_length m core (slot_of f word) }
@@ -114,8 +110,7 @@ module _ (f : Five) (now : ℕ → Word) (stale worse : ℕ → ℕ → Type 0) 
       taken d true e own =
           let same = eqb-true d core e in
           let mine : n.copies core (slot_of f word) ≡ registered word (now word) = ap (λ (k : ℕ). n.copies k (slot_of f word)) (sym same) ∙ s.owned word d own in
-          let no_way : ⊥ = free word (now word) mine in
-          absurd no_way
+          absurd (free word (now word) mine)
       taken d false e own =
           let still_free : Unregistered (with_copy n d (slot_of f word) invalid) core (slot_of f word) = λ w y h. grind (arith, upd2_cases n.copies d (slot_of f word) invalid core (slot_of f word), free w y) in
           claimed_keeps m (with_copy n d (slot_of f word) invalid) 2 within len still_free (loose_taken f now stale word n d own s)
@@ -136,28 +131,15 @@ module _ (f : Five) (now : ℕ → Word) (stale worse : ℕ → ℕ → Type 0) 
       record {
         owned = λ w d e. grind (arith, upd_cases now word x w, upd2_cases m.copies core (slot_of f word) (registered word x) d (slot_of f w), s.owned w d e, s.mine core (slot_of f word) word y here);
         mine = λ d j w z e. grind (arith, upd2_cases m.copies core (slot_of f word) (registered word x) d j, s.mine d j w z, s.mine core (slot_of f word) word y here);
-        placed = λ d j w z e. grind (arith, upd2_cases m.copies core (slot_of f word) (registered word x) d j, s.placed d j w z);
-        inside = λ d j w z e. grind (arith, upd2_cases m.copies core (slot_of f word) (registered word x) d j, s.inside d j w z, s.inside core (slot_of f word) word y here);
-        ranged = λ d j w z e. grind (arith, upd2_cases m.copies core (slot_of f word) (registered word x) d j, s.ranged d j w z);
+        stands = stored_stands f now stale word m core x below (s.stands core (slot_of f word) word y here).inside s.stands;
         home = λ w e. grind (arith, upd_cases now word x w, s.home w e, s.mine core (slot_of f word) word y here);
-        seen = seen_replaced;
+        seen = stored_seen f now stale word m core x worse more others s.seen;
       }
-    where
-      seen_replaced : (d w : ℕ) (z : Word) → upd2 m.copies core (slot_of f word) (registered word x) d (slot_of f w) ≡ valid w z → (z ≡ upd now word x w) ⊎ worse d w
-      seen_replaced d w z e =
-          ⊎_elim
-          (λ p. let q : registered word x ≡ valid w z = sym p.2 ∙ e in grind arith)
-          (λ p. ⊎_elim
-          (λ q. inr (let away : d ≡ core → ⊥ = λ h. p.0 h (ap (slot_of f) q.0) in grind (arith, others d away, q.0)))
-          (λ q. ⊎_elim (λ r. inl (r ∙ sym q.1)) (λ r. inr (more d w r)) (s.seen d w z (sym p.1 ∙ e)))
-          (upd_cases now word x w))
-          (upd2_cases m.copies core (slot_of f word) (registered word x) d (slot_of f w))
 
   pub store_keeps : (m : Memory) → word < length m.page → Sound f now stale m → Keeps f (upd now word x) worse m (effect.store f m core word x)
   store_keeps m within s = go (copy_of f m core word) refl
     where
       go : (k : Copy) → copy_of f m core word ≡ k → Keeps f (upd now word x) worse m (store_row k f m core word x)
-      go invalid e = claim_keeps m within s
-      go (valid v y) e = claim_keeps m within s
       go (registered v y) e =
           record { sound = replaced_keeps m y (found_registered word v (m.copies core (slot_of f word)) y e) s; long = refl }
+      go _ e = claim_keeps m within s

@@ -56,14 +56,12 @@ same_store None (Some s) old x a b p q =
     let some = (b s refl).1 in
     let blank : number x.mark ≡ 0 = ap (λ (k : Word). number k.mark) p in
     let marked = q.1 in
-    let no_way : ⊥ = omega arith in
-    absurd no_way
+    absurd (omega arith)
 same_store (Some s) None old x a b p q =
     let some = (a s refl).1 in
     let blank : number x.mark ≡ 0 = ap (λ (k : Word). number k.mark) q in
     let marked = p.1 in
-    let no_way : ⊥ = omega arith in
-    absurd no_way
+    absurd (omega arith)
 same_store (Some s) (Some t) old x a b p q =
     let parts = marks_apart s.core s.count t.core t.count (a s refl) (b t refl) (sym p.1 ∙ q.1) in
     λ i. Some (record { core = parts.0 i; count = parts.1 i; value = (sym p.0 ∙ q.0) i })

@@ -1,11 +1,11 @@
 -- Settle writes every registered copy back, place by place: all stays sound and no word has an owner after it. A phase call
 -- drops each copy that could be stale. Assumes nothing.
-use Rattle.std.proofs.Common.{◌≡◌, ℕ, ◌<◌, Bool, true, false, cond, not, ◌⊎◌, List, [], ◌∷◌, Some, None, fold, Option, sym, refl, ap, ◌∙◌, inl, ⊎_elim, mod-lt, arith}
+use Rattle.std.proofs.Common.{◌≡◌, ℕ, ◌<◌, cond, not, ◌⊎◌, List, [], ◌∷◌, Some, None, fold, Option, sym, refl, ap, ◌∙◌, inl, ⊎_elim, mod-lt, arith}
 use Rattle.call.specs.Figures.{Five, slot_of}
 use Rattle.word.specs.declared.word.Word.{Word}
 use Rattle.rules.specs.Effects as effect
 use Rattle.rules.specs.Effects.{Put, Place, write_back, write_back_by, places, dropped, faded}
-use Rattle.rules.specs.Plans.{Mode, read_only, written, locked, mode_of, is_read_only}
+use Rattle.rules.specs.Plans.{Mode, read_only, mode_of, is_read_only}
 use Rattle.rules.specs.State.{Copy, invalid, valid, registered, Memory}
 use Rattle.rules.proofs.Members.{In, in_places}
 use Rattle.rules.proofs.Memories.{Sound, Unregistered, write_back_sound, write_back_clears}
@@ -27,9 +27,8 @@ module _ (f : Five) (now : ℕ → Word) (stale : ℕ → ℕ → Type 0) where
   write_back_leaves m c i d j free = go (m.copies d j)
     where
       go : (k : Copy) → Unregistered (write_back_by k m d j) c i
-      go invalid w x e = free w x e
-      go (valid v y) w x e = free w x e
       go (registered v y) w x e = grind (arith, upd2_cases m.copies d j (valid v y) c i, free w x)
+      go _ w x e = free w x e
 
   written_back_leaves : (m : Memory) (ps : List Place) (c i : ℕ) → Unregistered m c i → Unregistered (written_back m ps) c i
   written_back_leaves m [] c i free w x e = free w x e
@@ -60,9 +59,8 @@ module _ (f : Five) (now : ℕ → Word) (stale : ℕ → ℕ → Type 0) where
       go None e = refl
       go (Some c) e =
           let here = after.owned w c e in
-          let ranged = after.ranged c (slot_of f w) w (now w) here in
-          let no_way : ⊥ = written_back_clears m (places f) (record { core = c; slot = slot_of f w }) (in_places f c (slot_of f w) ranged (mod-lt w some)) s w (now w) here in
-          absurd no_way
+          let ranged = (after.stands c (slot_of f w) w (now w) here).ranged in
+          absurd (written_back_clears m (places f) (record { core = c; slot = slot_of f w }) (in_places f c (slot_of f w) ranged (mod-lt w some)) s w (now w) here)
 
 -- a phase call drops what could be stale: what was not read_only in the phase that ends
 pub fade_keeps : (f : Five) (plan : ℕ) (now : ℕ → Word) (stale none : ℕ → ℕ → Type 0) (m : Memory) → ((c w : ℕ) → mode_of f plan w ≡ read_only → stale c w → ⊥) → Sound f now stale m → Keeps f now none m (effect.fade f plan m)
@@ -72,9 +70,7 @@ fade_keeps f plan now stale none m still s =
           record {
             owned = λ w c e. ap (faded f plan) (s.owned w c e);
             mine = λ c i w x e. s.mine c i w x (was_registered (m.copies c i) w x e);
-            placed = λ c i w x e. s.placed c i w x (was_registered (m.copies c i) w x e);
-            inside = λ c i w x e. s.inside c i w x (was_registered (m.copies c i) w x e);
-            ranged = λ c i w x e. s.ranged c i w x (was_registered (m.copies c i) w x e);
+            stands = λ c i w x e. s.stands c i w x (was_registered (m.copies c i) w x e);
             home = s.home;
             seen = λ c w x e. stayed c w x (m.copies c (slot_of f w)) refl e;
           };
@@ -82,24 +78,17 @@ fade_keeps f plan now stale none m still s =
     }
   where
     was_registered : (k : Copy) (w : ℕ) (x : Word) → faded f plan k ≡ registered w x → k ≡ registered w x
-    was_registered invalid w x e = e
-    was_registered (valid v y) w x e = let b : ⊥ = go (dropped f plan (valid v y)) e in absurd b
-      where
-        go : (t : Bool) → cond t invalid (valid v y) ≡ registered w x → ⊥
-        go true h = grind arith
-        go false h = grind arith
-    was_registered (registered v y) w x e = e
+    was_registered (valid v y) w x e = grind arith
+    was_registered _ w x e = e
 
     stayed : (c w : ℕ) (x : Word) (k : Copy) → m.copies c (slot_of f w) ≡ k → faded f plan k ≡ valid w x → (x ≡ now w) ⊎ none c w
-    stayed c w x invalid here e = grind arith
-    stayed c w x (registered v y) here e = grind arith
     stayed c w x (valid v y) here e = go (mode_of f plan v) refl e
       where
         go : (mode : Mode) → mode_of f plan v ≡ mode → cond (not (is_read_only mode)) invalid (valid v y) ≡ valid w x → (x ≡ now w) ⊎ none c w
-        go written _ h = grind arith
-        go (locked l) _ h = grind arith
         go read_only ro h =
             let v_w : v ≡ w = cc in
             let y_x : y ≡ x = cc in
             let mine : m.copies c (slot_of f w) ≡ valid w x = here ∙ h in
             inl (⊎_elim (λ p. p) (λ p. absurd (still c w (ap (mode_of f plan) (sym v_w) ∙ ro) p)) (s.seen c w x mine))
+        go _ _ h = grind arith
+    stayed c w x _ here e = grind arith

@@ -1,9 +1,10 @@
 -- Moments of a history as splits of it: two splits of one list, the last member that passes a test, a property along a
 -- history, and gatherings, which go through an append. Assumes nothing.
-use Rattle.std.proofs.Common.{◌≡◌, Bool, true, false, ◌||◌, List, [], ◌∷◌, ◌++◌, sym, refl, ap, ◌∙◌, subst, ⊎_elim, append_assoc, arith}
+use Rattle.std.proofs.Common.{◌≡◌, Bool, true, false, ◌||◌, ◌⊎◌, List, [], ◌∷◌, ◌++◌, sym, refl, ap, ◌∙◌, subst, inl, inr, ⊎_elim, append_assoc, arith}
+use Rattle.std.proofs.lemmas.List.Concat.{flat_map-append}
 use Rattle.std.specs.List.{flat_map}
 use Rattle.std.proofs.lemmas.List.{append-nil}
-use Rattle.std.proofs.lemmas.Bool.{both_ways, cases_Bool}
+use Rattle.std.proofs.lemmas.Bool.{both_ways, cases_Bool, or_parts}
 use Rattle.rules.specs.Tables.{some_of}
 
 -- a member of a list, with what stands before and after it
@@ -62,14 +63,8 @@ last_of p (x ∷ h) e =
 
 -- a member of the middle passes no test that no member passes
 pub none_at : {X : Type 0} (p : X → Bool) (A : List X) (x : X) (B : List X) → some_of p (A ++ (x ∷ B)) ≡ false → p x ≡ false
-none_at p [] x B e = here (p x) (some_of p B) e
-  where
-    here : (a b : Bool) → (a || b) ≡ false → a ≡ false
-    here a b t = grind arith
-none_at p (a ∷ A) x B e = none_at p A x B (there (p a) (some_of p (A ++ (x ∷ B))) e)
-  where
-    there : (a b : Bool) → (a || b) ≡ false → b ≡ false
-    there a b t = grind arith
+none_at p [] x B e = (or_parts (p x) (some_of p B) e).0
+none_at p (a ∷ A) x B e = none_at p A x B (or_parts (p a) (some_of p (A ++ (x ∷ B))) e).1
 
 -- ── along a history ──
 
@@ -85,9 +80,41 @@ along {X} h P start keep first rest split = go [] first split start
 
 -- ── gatherings ──
 
-pub joined_append : {X Y : Type 0} (f : X → List Y) (xs ys : List X) → flat_map f (xs ++ ys) ≡ flat_map f xs ++ flat_map f ys
-joined_append f [] ys = refl
-joined_append f (x ∷ xs) ys = ap (λ (k : List _). f x ++ k) (joined_append f xs ys) ∙ sym (append_assoc (f x) (flat_map f xs) (flat_map f ys))
-
 pub joined_push : {X Y : Type 0} (f : X → List Y) (xs : List X) (x : X) → flat_map f (xs ++ (x ∷ [])) ≡ flat_map f xs ++ f x
-joined_push f xs x = joined_append f xs (x ∷ []) ∙ ap (λ (k : List _). flat_map f xs ++ k) (append-nil (f x))
+joined_push f xs x = flat_map-append f xs (x ∷ []) ∙ ap (λ (k : List _). flat_map f xs ++ k) (append-nil (f x))
+
+-- each member gives one or none
+abbrev pub OneOrNone : {X Y : Type 0} → (X → List Y) → Type 0
+OneOrNone {X} {Y} f = (x : X) → (f x ≡ []) ⊎ ((y : Y) × (f x ≡ y ∷ []))
+
+-- the member that gives the one behind the front of a gathering
+pub record Source {X Y : Type 0} (f : X → List Y) (front : List Y) (y : Y) (h : List X) : Type 0 where
+  pub spot : Spot h
+  pub same : flat_map f spot.before ≡ front
+  pub gives : f spot.event ≡ y ∷ []
+
+source_under : {X Y : Type 0} (f : X → List Y) (x : X) (h : List X) (own front : List Y) (y : Y) → f x ≡ own → Source f front y h → Source f (own ++ front) y (x ∷ h)
+source_under f x h own front y q p =
+    record {
+      spot = record { before = x ∷ p.spot.before; event = p.spot.event; after = p.spot.after; stands = ap (λ (k : List _). x ∷ k) p.spot.stands };
+      same = (λ i. q i ++ p.same i);
+      gives = p.gives;
+    }
+
+pub source : {X Y : Type 0} (f : X → List Y) → OneOrNone f → (h : List X) (front : List Y) (y : Y) (back : List Y) → flat_map f h ≡ front ++ (y ∷ back) → Source f front y h
+source f few [] [] y back e = absurd cc
+source f few [] (z ∷ front) y back e = absurd cc
+source {X} {Y} f few (x ∷ h) front y back e = go (few x) (λ m s. source f few h m y back s)
+  where
+    given : (m : List Y) (z : Y) → f x ≡ z ∷ [] → z ∷ flat_map f h ≡ m ++ (y ∷ back) → ((n : List Y) → flat_map f h ≡ n ++ (y ∷ back) → Source f n y h) → Source f m y (x ∷ h)
+    given [] z t s more =
+        let eq : z ≡ y = cc in
+        record { spot = record { before = []; event = x; after = h; stands = refl }; same = refl; gives = t ∙ (λ i. eq i ∷ []) }
+    given (v ∷ m) z t s more =
+        let head : z ≡ v = cc in
+        let tail : flat_map f h ≡ m ++ (y ∷ back) = cc in
+        source_under f x h (v ∷ []) m y (t ∙ (λ i. head i ∷ [])) (more m tail)
+
+    go : ((f x ≡ []) ⊎ ((z : Y) × (f x ≡ z ∷ []))) → ((n : List Y) → flat_map f h ≡ n ++ (y ∷ back) → Source f n y h) → Source f front y (x ∷ h)
+    go (inl none) more = source_under f x h [] front y none (more front (ap (λ (k : List Y). k ++ flat_map f h) (sym none) ∙ e))
+    go (inr (z, one)) more = given front z one (ap (λ (k : List Y). k ++ flat_map f h) (sym one) ∙ e) more

@@ -7,7 +7,7 @@ use Rattle.std.proofs.lemmas.Bool.{cond-true, cond-false, eq-eqb, ne_eqb}
 use Rattle.call.specs.declared.call.Call.{Call}
 use Rattle.call.specs.declared.call.Call.TheVariants as call
 use Rattle.call.specs.declared.refusal.Refusal.{Refusal}
-use Rattle.rules.specs.Histories.{accepted, refused_with, acquire_of, release_of, Asked, cores_for, acquirers, releasers, entered_by, ledger_of}
+use Rattle.rules.specs.Histories.{refused_with, acquire_of, release_of, Asked, cores_for, acquirers, releasers, ledger_of}
 use Rattle.rules.specs.Laws.{Unrefused}
 use Rattle.rules.specs.Refusals.{refusal}
 use Rattle.rules.specs.Runs.{Event, History, Ran}
@@ -18,7 +18,7 @@ use Rattle.rules.proofs.Invariant.{holds_tells}
 use Rattle.rules.proofs.Splits.{along, joined_push}
 use Rattle.rules.proofs.Tables.{upd_cases}
 use Rattle.rules.proofs.Unrefused.{release_passes}
-use Rattle.rules.proofs.Walking.{folded_push, of_unrefused}
+use Rattle.rules.proofs.Walking.{of_unrefused, ledger_push}
 
 -- ── a run without a refusal ──
 
@@ -28,8 +28,7 @@ pub record Legal (b : Setting) (h : History) : Type 0 where
   pub passes : (before : History) (e : Event) (after : History) → h ≡ before ++ (e ∷ after) → refusal b (ledger_of before) e.call ≡ None
 
 accepted_tells : (o : Option Refusal) → not (is_some o) ≡ true → o ≡ None
-accepted_tells None e = refl
-accepted_tells (Some r) e = grind arith
+accepted_tells o e = grind arith
 
 pub legal : (r : Ran) → Unrefused r.history → Legal (setting r.figures r.page) r.history
 legal r ok =
@@ -37,12 +36,6 @@ legal r ok =
       accepts = λ before e after split. accepted_tells (refused_with e.answer) (ok before e after split);
       passes = λ before e after split. sym (refusals_told r before e after split) ∙ accepted_tells (refused_with e.answer) (ok before e after split);
     }
-
--- the ledger after an accepted event
-pub ledger_push : (before : History) (e : Event) → refused_with e.answer ≡ None → ledger_of (before ++ (e ∷ [])) ≡ entered (ledger_of before) e.call
-ledger_push before e a =
-    folded_push entered_by _ before e
-    ∙ cond-true (accepted e) (entered (ledger_of before) e.call) (ledger_of before) (ap (λ (o : Option Refusal). not (is_some o)) a)
 
 -- ── holder and queue ──
 
@@ -93,8 +86,8 @@ cores_here lock k core e = cond-true (eqb k lock) (core ∷ []) [] (eq-eqb k loc
 cores_there : (lock k core : ℕ) → (lock ≡ k → ⊥) → cores_for lock (Some (record { core = core; lock = k })) ≡ []
 cores_there lock k core n = cond-false (eqb k lock) (core ∷ []) [] (ne_eqb k lock (λ e. n (sym e)))
 
-turn_like : (a b : Lock) (x u y v : List ℕ) → a ≡ b → x ≡ u → y ≡ v → Turn b u v → Turn a x y
-turn_like a b x u y v p q r t =
+turn_like : {a b : Lock} {x u y v : List ℕ} → a ≡ b → x ≡ u → y ≡ v → Turn b u v → Turn a x y
+turn_like {a} {b} {x} {u} {y} {v} p q r t =
     subst (λ (k : Lock). Turn k x y) (sym p) (subst (λ (k : List ℕ). Turn b k y) (sym q) (subst (λ (k : List ℕ). Turn b u k) (sym r) t))
 
 -- one accepted call
@@ -105,23 +98,20 @@ turn_entered l c lock got given by_holder t = go c refl
     unmoved = rw (append-nil got) (rw (append-nil given) t)
 
     go : (k : Call) → c ≡ k → Turn ((entered l k).locks lock) (got ++ cores_for lock (acquire_of k)) (given ++ cores_for lock (release_of k))
-    go (call.Load core word) e = unmoved
-    go (call.Store core word value) e = unmoved
-    go (call.Evict core word) e = unmoved
     go (call.Acquire core k) e =
         ⊎_elim
-        (λ p. turn_like _ _ _ _ _ _ (p.1 ∙ ap (λ (j : ℕ). acquired_by (l.locks j).holder (l.locks j) core) (sym p.0)) (ap (λ (j : List ℕ). got ++ j) (cores_here lock k core p.0)) (append-nil given)
+        (λ p. turn_like (p.1 ∙ ap (λ (j : ℕ). acquired_by (l.locks j).holder (l.locks j) core) (sym p.0)) (ap (λ (j : List ℕ). got ++ j) (cores_here lock k core p.0)) (append-nil given)
         (acquired_turn (l.locks lock).holder (l.locks lock) core got given refl t))
-        (λ p. turn_like _ _ _ _ _ _ p.1 (ap (λ (j : List ℕ). got ++ j) (cores_there lock k core p.0) ∙ append-nil got) (append-nil given) t)
+        (λ p. turn_like p.1 (ap (λ (j : List ℕ). got ++ j) (cores_there lock k core p.0) ∙ append-nil got) (append-nil given) t)
         (upd_cases l.locks k (acquired_by (l.locks k).holder (l.locks k) core) lock)
     go (call.Release core k) e =
         ⊎_elim
-        (λ p. turn_like _ _ _ _ _ _ (p.1 ∙ ap (λ (j : ℕ). released_to (l.locks j).queue core) (sym p.0)) (append-nil got) (ap (λ (j : List ℕ). given ++ j) (cores_here lock k core p.0))
+        (λ p. turn_like (p.1 ∙ ap (λ (j : ℕ). released_to (l.locks j).queue core) (sym p.0)) (append-nil got) (ap (λ (j : List ℕ). given ++ j) (cores_here lock k core p.0))
         (released_turn (l.locks lock).queue (l.locks lock) core got given refl (ap (λ (j : ℕ). (l.locks j).holder) p.0 ∙ by_holder core k e) t))
-        (λ p. turn_like _ _ _ _ _ _ p.1 (append-nil got) (ap (λ (j : List ℕ). given ++ j) (cores_there lock k core p.0) ∙ append-nil given) t)
+        (λ p. turn_like p.1 (append-nil got) (ap (λ (j : List ℕ). given ++ j) (cores_there lock k core p.0) ∙ append-nil given) t)
         (upd_cases l.locks k (released_to (l.locks k).queue core) lock)
     go (call.Phase plan) e = record { turns = unmoved.turns; nobody = t.nobody }
-    go call.Settle e = unmoved
+    go _ e = unmoved
 
 pub turn : (b : Setting) (h : History) → Legal b h → (lock : ℕ) (first rest : History) → h ≡ first ++ rest → Turn ((ledger_of first).locks lock) (acquirers lock first) (releasers lock first)
 turn b h ok lock first rest split = along h (λ p. Turn ((ledger_of p).locks lock) (acquirers lock p) (releasers lock p)) start keep first rest split
@@ -132,7 +122,7 @@ turn b h ok lock first rest split = along h (λ p. Turn ((ledger_of p).locks loc
     keep : (before : History) (e : Event) (after : History) → h ≡ before ++ (e ∷ after) → Turn ((ledger_of before).locks lock) (acquirers lock before) (releasers lock before) → Turn ((ledger_of (before ++ (e ∷ []))).locks lock) (acquirers lock (before ++ (e ∷ []))) (releasers lock (before ++ (e ∷ [])))
     keep before e after at t =
         let a = ok.accepts before e after at in
-        turn_like _ _ _ _ _ _
+        turn_like
         (ap (λ (l : Ledger). l.locks lock) (ledger_push before e a))
         (joined_push _ before e ∙ ap (λ (o : Option Asked). acquirers lock before ++ cores_for lock o) (of_unrefused acquire_of e a))
         (joined_push _ before e ∙ ap (λ (o : Option Asked). releasers lock before ++ cores_for lock o) (of_unrefused release_of e a))

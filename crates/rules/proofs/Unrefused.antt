@@ -1,5 +1,5 @@
 -- What a call that is not refused tells: no row of it is met. Assumes nothing.
-use Rattle.std.proofs.Common.{◌≡◌, ℕ, ◌<◌, true, false, not, leb, List, [], ◌∷◌, None, Option}
+use Rattle.std.proofs.Common.{◌≡◌, ℕ, ◌<◌, true, false, List, [], ◌∷◌, None, Option}
 use Rattle.std.proofs.lemmas.Bool.{leb-false, not-false}
 use Rattle.call.specs.declared.call.Call.TheVariants as call
 use Rattle.call.specs.declared.refusal.Refusal.TheVariants.{NoCore, OutsideBoard, Waiting, ReadOnly, NotHolder, AllowanceSpent, NoLock, HoldsLock, NotHeld}
@@ -33,10 +33,10 @@ module _ (b : Setting) (l : Ledger) where
   load_passes core word e =
       let n = none_of (rows b l (call.Load core word)) e in
       record {
-        in_cores = leb-false b.figures.cores core (when_none (leb b.figures.cores core) NoCore n.0);
-        in_size = leb-false b.size word (when_none (leb b.size word) OutsideBoard n.1.0);
-        awake = when_none (waits l.locks core) Waiting n.1.1.0;
-        open_to = when_none (shut_out l.locks (mode word) core) NotHolder n.1.1.1.0;
+        in_cores = leb-false _ _ (when_none _ NoCore n.0);
+        in_size = leb-false _ _ (when_none _ OutsideBoard n.1.0);
+        awake = when_none _ Waiting n.1.1.0;
+        open_to = when_none _ NotHolder n.1.1.1.0;
         unraced = n.1.1.1.1.0;
       }
 
@@ -53,13 +53,13 @@ module _ (b : Setting) (l : Ledger) where
   store_passes core word value e =
       let n = none_of (rows b l (call.Store core word value)) e in
       record {
-        in_cores = leb-false b.figures.cores core (when_none (leb b.figures.cores core) NoCore n.0);
-        in_size = leb-false b.size word (when_none (leb b.size word) OutsideBoard n.1.0);
-        awake = when_none (waits l.locks core) Waiting n.1.1.0;
-        writable = when_none (is_read_only (mode word)) ReadOnly n.1.1.1.0;
-        open_to = when_none (shut_out l.locks (mode word) core) NotHolder n.1.1.1.1.0;
+        in_cores = leb-false _ _ (when_none _ NoCore n.0);
+        in_size = leb-false _ _ (when_none _ OutsideBoard n.1.0);
+        awake = when_none _ Waiting n.1.1.0;
+        writable = when_none _ ReadOnly n.1.1.1.0;
+        open_to = when_none _ NotHolder n.1.1.1.1.0;
         unraced = n.1.1.1.1.1.0;
-        unspent = leb-false b.figures.allowance (l.counts core) (when_none (leb b.figures.allowance (l.counts core)) AllowanceSpent n.1.1.1.1.1.1.0);
+        unspent = leb-false _ _ (when_none _ AllowanceSpent n.1.1.1.1.1.1.0);
       }
 
   pub record LockPasses (core lock : ℕ) : Type 0 where
@@ -70,13 +70,13 @@ module _ (b : Setting) (l : Ledger) where
   pub acquire_passes : (core lock : ℕ) → refusal b l (call.Acquire core lock) ≡ None → LockPasses core lock × (holds_some l.locks core ≡ false)
   acquire_passes core lock e =
       let n = none_of (rows b l (call.Acquire core lock)) e in (
-        record { in_cores = leb-false b.figures.cores core (when_none (leb b.figures.cores core) NoCore n.0); awake = when_none (waits l.locks core) Waiting n.1.0; in_locks = leb-false 8 lock (when_none (leb 8 lock) NoLock n.1.1.0) },
-        when_none (holds_some l.locks core) HoldsLock n.1.1.1.0,
+        record { in_cores = leb-false _ _ (when_none _ NoCore n.0); awake = when_none _ Waiting n.1.0; in_locks = leb-false _ _ (when_none _ NoLock n.1.1.0) },
+        when_none _ HoldsLock n.1.1.1.0,
       )
 
   pub release_passes : (core lock : ℕ) → refusal b l (call.Release core lock) ≡ None → LockPasses core lock × (holds l.locks core lock ≡ true)
   release_passes core lock e =
       let n = none_of (rows b l (call.Release core lock)) e in (
-        record { in_cores = leb-false b.figures.cores core (when_none (leb b.figures.cores core) NoCore n.0); awake = when_none (waits l.locks core) Waiting n.1.0; in_locks = leb-false 8 lock (when_none (leb 8 lock) NoLock n.1.1.0) },
-        not-false (holds l.locks core lock) (when_none (not (holds l.locks core lock)) NotHeld n.1.1.1.0),
+        record { in_cores = leb-false _ _ (when_none _ NoCore n.0); awake = when_none _ Waiting n.1.0; in_locks = leb-false _ _ (when_none _ NoLock n.1.1.0) },
+        not-false (holds l.locks core lock) (when_none _ NotHeld n.1.1.1.0),
       )

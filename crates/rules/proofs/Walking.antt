@@ -1,7 +1,9 @@
 -- Along a run the invariant holds at every moment, the ledger is the one that the history tells, and the words that the
 -- invariant speaks of are the history's: the last store to each place, or the opening word. One walk from the opening to
 -- any moment serves all laws. Assumes nothing.
-use Rattle.std.proofs.Common.{◌≡◌, ℕ, ◌+◌, ◌<◌, ◌≤◌, Bool, true, false, cond, not, eqb, List, [], ◌∷◌, ◌++◌, is_some, Some, None, fold, Option, sym, refl, ap, ◌∙◌, subst, ⊎_elim, append_assoc, arith, Err, Result, Ok}
+use Rattle.std.proofs.Common.{◌≡◌, ℕ, ◌+◌, ◌<◌, ◌≤◌, Bool, true, false, cond, not, eqb, [], ◌∷◌, ◌++◌, is_some, Some, None, Option, sym, refl, ap, ◌∙◌, subst, ⊎_elim, append_assoc, arith, Err, Result, Ok}
+use Rattle.std.proofs.lemmas.List.Sums.{fold_push}
+use Rattle.std.proofs.lemmas.Option.{same_Some}
 use Rattle.std.proofs.lemmas.List.{append-nil}
 use Rattle.std.proofs.lemmas.Bool.{eqb-true, eqb-false, cond-true}
 use Rattle.call.specs.declared.answer.Answer.{Answer}
@@ -13,7 +15,7 @@ use Rattle.word.specs.Lawful.{Stores, mark_of}
 use Rattle.word.specs.Marks.{number}
 use Rattle.word.specs.declared.word.Word.{Word}
 use Rattle.word.proofs.Marks.{stores_lawful, number_mark_at}
-use Rattle.rules.specs.Histories.{accepted, refused_with, of_accepted, store_of, Written, ToldStore, Tracked, track_by, tracked, last_store, Fresh, entered_by, ledger_of}
+use Rattle.rules.specs.Histories.{accepted, refused_with, of_accepted, store_of, stored, Written, ToldStore, Tracked, track_by, tracked, last_store, Fresh, entered_by, ledger_of}
 use Rattle.rules.specs.Refusals.{refusal}
 use Rattle.rules.specs.Runs.{Event, History, Chain}
 use Rattle.rules.specs.State.{Ledger, State, Setting}
@@ -24,20 +26,20 @@ use Rattle.rules.proofs.Invariant.{Fits, Good, now_after, after, accepted_good}
 use Rattle.rules.proofs.Tables.{upd_cases}
 use Rattle.rules.proofs.Unrefused.{store_passes}
 
--- a fold, one step on
-pub folded_push : {A B : Type 0} (f : B → A → B) (b : B) (xs : List A) (x : A) → fold f b (xs ++ (x ∷ [])) ≡ f (fold f b xs) x
-folded_push f b [] x = refl
-folded_push f b (y ∷ xs) x = folded_push f (f b y) xs x
-
-pub same_some : {X : Type 0} (x y : X) → Some x ≡ Some y → x ≡ y
-same_some x y e = cc
-
 -- what an event tells of its projections
 pub of_refused : {X : Type 0} (project : Call → Option X) (e : Event) (r : Refusal) → e.answer ≡ Err r → of_accepted project e ≡ None
 of_refused project e r h = ap (λ (a : Result Answer Refusal). of_accepted project (record { call = e.call; answer = a })) h
 
 pub of_unrefused : {X : Type 0} (project : Call → Option X) (e : Event) → refused_with e.answer ≡ None → of_accepted project e ≡ project e.call
 of_unrefused project e h = cond-true (accepted e) (project e.call) None (ap (λ (o : Option Refusal). not (is_some o)) h)
+
+-- the ledger after an accepted event
+pub entered_accepted : (l : Ledger) (e : Event) → refused_with e.answer ≡ None → entered_by l e ≡ entered l e.call
+entered_accepted l e a =
+    cond-true (accepted e) (entered l e.call) l (ap (λ (o : Option Refusal). not (is_some o)) a)
+
+pub ledger_push : (before : History) (e : Event) → refused_with e.answer ≡ None → ledger_of (before ++ (e ∷ [])) ≡ entered (ledger_of before) e.call
+ledger_push before e a = fold_push entered_by _ before e ∙ entered_accepted (ledger_of before) e a
 
 -- what the history tells of the ledger and of the words
 pub record Told (b : Setting) (old now : ℕ → Word) (l : Ledger) (h : History) : Type 0 where
@@ -62,6 +64,19 @@ module _ (b : Setting) (fits : Fits b) (old : ℕ → Word) where
     abbrev l : Ledger
     l = s.ledger
 
+    -- an event that is no accepted store moves no word
+    quiet_told : (k : Ledger) → stored e ≡ None → k ≡ ledger_of (h ++ (e ∷ [])) → ((c : ℕ) → l.counts c ≡ k.counts c) → Told b old now k (h ++ (e ∷ []))
+    quiet_told k none ledger kept =
+        record {
+          ledger = ledger;
+          counts = λ w c. ap (λ (t : Tracked). t.counts c) (unmoved w) ∙ (m.told.counts w c ∙ kept c);
+          fresh = λ w p. subst (λ (t : Tracked). Fresh t.last (old w) (now w)) (sym (unmoved w)) (m.told.fresh w p);
+          lawful = λ w t p. let old_one = m.told.lawful w t (ap (λ (k : Tracked). k.last) (sym (unmoved w)) ∙ p) in (old_one.0, rw (sym (kept t.core)) old_one.1);
+        }
+      where
+        unmoved : (w : ℕ) → tracked w (h ++ (e ∷ [])) ≡ tracked w h
+        unmoved w = fold_push _ _ h e ∙ ap (λ (o : Option Written). track_by w o (tracked w h)) none
+
     refused_moment : (r : Refusal) → e.answer ≡ Err r → ((c w : ℕ) → g' c w ≡ g c w) → Moment (h ++ (e ∷ [])) s g'
     refused_moment r a same =
         record {
@@ -77,45 +92,22 @@ module _ (b : Setting) (fits : Fits b) (old : ℕ → Word) where
                     };
                 long = m.good.long;
               };
-          told =
-              record {
-                ledger = m.told.ledger ∙ sym (folded_push entered_by _ h e ∙ ap (λ (x : Result Answer Refusal). entered_by (ledger_of h) (record { call = e.call; answer = x })) a);
-                counts = λ w c. ap (λ (t : Tracked). t.counts c) (unmoved w) ∙ m.told.counts w c;
-                fresh = λ w p. subst (λ (t : Tracked). Fresh t.last (old w) (now w)) (sym (unmoved w)) (m.told.fresh w p);
-                lawful = λ w t p. m.told.lawful w t (ap (λ (k : Tracked). k.last) (sym (unmoved w)) ∙ p);
-              };
+          told = quiet_told l (of_refused store_of e r a) (m.told.ledger ∙ sym (fold_push entered_by _ h e ∙ ap (λ (x : Result Answer Refusal). entered_by (ledger_of h) (record { call = e.call; answer = x })) a)) (λ c. refl);
         }
-      where
-        unmoved : (w : ℕ) → tracked w (h ++ (e ∷ [])) ≡ tracked w h
-        unmoved w = folded_push _ _ h e ∙ ap (λ (o : Option Written). track_by w o (tracked w h)) (of_refused store_of e r a)
 
     -- the ledger after an accepted call is the history's
     entered_told : refused_with e.answer ≡ None → entered l e.call ≡ ledger_of (h ++ (e ∷ []))
     entered_told a =
-        ap (λ (k : Ledger). entered k e.call) m.told.ledger
-        ∙ sym (folded_push entered_by _ h e ∙ cond-true (accepted e) (entered (ledger_of h) e.call) (ledger_of h) (ap (λ (o : Option Refusal). not (is_some o)) a))
+        ap (λ (k : Ledger). entered k e.call) m.told.ledger ∙ sym (ledger_push h e a)
 
     -- an accepted call that is no store moves no word
     plain_told : store_of e.call ≡ None → refused_with e.answer ≡ None → Told b old now (entered l e.call) (h ++ (e ∷ []))
     plain_told none a =
-        record {
-          ledger = entered_told a;
-          counts = λ w c. ap (λ (t : Tracked). t.counts c) (unmoved w) ∙ (m.told.counts w c ∙ counts_kept e.call none c);
-          fresh = λ w p. subst (λ (t : Tracked). Fresh t.last (old w) (now w)) (sym (unmoved w)) (m.told.fresh w p);
-          lawful = λ w t p. let old_one = m.told.lawful w t (ap (λ (k : Tracked). k.last) (sym (unmoved w)) ∙ p) in (old_one.0, rw (sym (counts_kept e.call none t.core)) old_one.1);
-        }
+        quiet_told (entered l e.call) (of_unrefused store_of e a ∙ none) (entered_told a) (counts_kept e.call none)
       where
-        unmoved : (w : ℕ) → tracked w (h ++ (e ∷ [])) ≡ tracked w h
-        unmoved w = folded_push _ _ h e ∙ ap (λ (o : Option Written). track_by w o (tracked w h)) (of_unrefused store_of e a ∙ none)
-
         counts_kept : (c : Call) → store_of c ≡ None → (k : ℕ) → l.counts k ≡ (entered l c).counts k
-        counts_kept (call.Load core word) p k = refl
-        counts_kept (call.Store core word value) p k = let z : ◌≡◌ {A = ℕ} 0 1 = cc in let no_way : ⊥ = omega arith in absurd no_way
-        counts_kept (call.Evict core word) p k = refl
-        counts_kept (call.Acquire core lock) p k = refl
-        counts_kept (call.Release core lock) p k = refl
-        counts_kept (call.Phase plan) p k = refl
-        counts_kept call.Settle p k = refl
+        counts_kept (call.Store core word value) p k = absurd cc
+        counts_kept _ p k = refl
 
     -- an accepted store is now the last to its word
     store_told : (core word value : ℕ) → e.call ≡ call.Store core word value → refused_with e.answer ≡ None → core < 8 → l.counts core < 1000000 → Told b old (upd now word (record { value = value; mark = next_mark l core })) (entered l (call.Store core word value)) (h ++ (e ∷ []))
@@ -130,24 +122,27 @@ module _ (b : Setting) (fits : Fits b) (old : ℕ → Word) where
         new : Word
         new = record { value = value; mark = next_mark l core }
 
+        told : ℕ → Option ToldStore
+        told w = Some (record { core = core; count = (tracked w h).counts core + 1; value = value })
+
         moved : (w : ℕ) → tracked w (h ++ (e ∷ [])) ≡ track_by w (Some (record { core = core; word = word; value = value })) (tracked w h)
         moved w =
-            folded_push _ _ h e
+            fold_push _ _ h e
             ∙ ap (λ (o : Option Written). track_by w o (tracked w h)) (of_unrefused store_of e a ∙ ap store_of is_IsStore)
 
         counts_moved : (w c : ℕ) → upd (tracked w h).counts core ((tracked w h).counts core + 1) c ≡ upd l.counts core (l.counts core + 1) c
         counts_moved w c =
             grind (arith, upd_cases (tracked w h).counts core ((tracked w h).counts core + 1) c, upd_cases l.counts core (l.counts core + 1) c, m.told.counts w c, m.told.counts w core)
 
-        lawful_moved : (w : ℕ) (t : ToldStore) → cond (eqb word w) (Some (record { core = core; count = (tracked w h).counts core + 1; value = value })) (last_store w h) ≡ Some t → Stores t.core t.count × (t.count ≤ upd l.counts core (l.counts core + 1) t.core)
+        lawful_moved : (w : ℕ) (t : ToldStore) → cond (eqb word w) (told w) (last_store w h) ≡ Some t → Stores t.core t.count × (t.count ≤ upd l.counts core (l.counts core + 1) t.core)
         lawful_moved w t p = go (eqb word w) p
           where
             alike : (tracked w h).counts core ≡ l.counts core
             alike = m.told.counts w core
 
-            go : (v : Bool) → cond v (Some (record { core = core; count = (tracked w h).counts core + 1; value = value })) (last_store w h) ≡ Some t → Stores t.core t.count × (t.count ≤ upd l.counts core (l.counts core + 1) t.core)
+            go : (v : Bool) → cond v (told w) (last_store w h) ≡ Some t → Stores t.core t.count × (t.count ≤ upd l.counts core (l.counts core + 1) t.core)
             go true q =
-                let same = same_some _ t q in
+                let same = same_Some _ t q in
                 let who : core ≡ t.core = ap (λ (k : ToldStore). k.core) same in
                 let many : (tracked w h).counts core + 1 ≡ t.count = ap (λ (k : ToldStore). k.count) same in
                 ((omega arith, omega arith, omega arith), grind (arith, upd_cases l.counts core (l.counts core + 1) t.core, who, many, alike))
@@ -156,7 +151,7 @@ module _ (b : Setting) (fits : Fits b) (old : ℕ → Word) where
                 let few = old_one.1 in
                 (old_one.0, grind (arith, upd_cases l.counts core (l.counts core + 1) t.core, few))
 
-        fresh_moved : (w : ℕ) → w < b.size → Fresh (cond (eqb word w) (Some (record { core = core; count = (tracked w h).counts core + 1; value = value })) (last_store w h)) (old w) (upd now word new w)
+        fresh_moved : (w : ℕ) → w < b.size → Fresh (cond (eqb word w) (told w) (last_store w h)) (old w) (upd now word new w)
         fresh_moved w p = go (eqb word w) refl
           where
             counted_alike : (tracked w h).counts core + 1 ≡ l.counts core + 1
@@ -167,7 +162,7 @@ module _ (b : Setting) (fits : Fits b) (old : ℕ → Word) where
                 number_mark_at (mark_of core (l.counts core + 1)) (stores_lawful core (l.counts core + 1) (in_cores, omega arith, omega arith))
                 ∙ ap (mark_of core) (sym counted_alike)
 
-            go : (t : Bool) → eqb word w ≡ t → Fresh (cond t (Some (record { core = core; count = (tracked w h).counts core + 1; value = value })) (last_store w h)) (old w) (upd now word new w)
+            go : (t : Bool) → eqb word w ≡ t → Fresh (cond t (told w) (last_store w h)) (old w) (upd now word new w)
             go true q =
                 let here : upd now word new w ≡ new = ⊎_elim (λ r. r.1) (λ r. absurd (r.0 (sym (eqb-true word w q)))) (upd_cases now word new w) in
                 subst (λ (x : Word). (x.value ≡ value) × (number x.mark ≡ mark_of core ((tracked w h).counts core + 1))) (sym here) (refl, mark_is)
@@ -190,7 +185,6 @@ module _ (b : Setting) (fits : Fits b) (old : ℕ → Word) where
         plain c q none = subst (λ (k : Call). Told b old now (entered l k) (h ++ (e ∷ []))) q (plain_told (ap store_of q ∙ none) unrefused)
 
         go : (c : Call) → e.call ≡ c → refusal b l c ≡ None → Told b old (now_after l now c) (entered l c) (h ++ (e ∷ []))
-        go (call.Load core word) q r = plain (call.Load core word) q refl
         go (call.Store core word value) q r =
             let p = store_passes b l core word value r in
             let few = fits.cores in
@@ -198,11 +192,7 @@ module _ (b : Setting) (fits : Fits b) (old : ℕ → Word) where
             let below = p.in_cores in
             let spent = p.unspent in
             store_told core word value q unrefused (omega arith) (omega arith)
-        go (call.Evict core word) q r = plain (call.Evict core word) q refl
-        go (call.Acquire core lock) q r = plain (call.Acquire core lock) q refl
-        go (call.Release core lock) q r = plain (call.Release core lock) q refl
-        go (call.Phase plan) q r = plain (call.Phase plan) q refl
-        go call.Settle q r = plain call.Settle q refl
+        go c q r = plain c q refl
 
     -- one call, accepted or refused
     pub next_moment : e.answer ≡ (step b g s e.call).answer → Changes (step b g s e.call).changes g g' → Moment (h ++ (e ∷ [])) (step b g s e.call).state g'
