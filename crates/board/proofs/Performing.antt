@@ -1,6 +1,7 @@
 -- What a call leaves, put together from its parts; and that a call which is refused, or performed after its checks, obeys the rules.
 -- Assumes nothing.
-use Rattle.std.proofs.Common.{◌≡◌, ℕ, List, Some, None, Err, Option, Result, refl, subst}
+use Rattle.std.proofs.Common.{◌≡◌, ℕ, List, Some, None, Ok, Err, Option, Result, refl, subst}
+use Rattle.std.specs.Result.{IsErrAnd}
 use Rattle.call.specs.declared.answer.Answer.{Answer}
 use Rattle.call.specs.declared.call.Call.{Call}
 use Rattle.call.specs.declared.refusal.Refusal.{Refusal}
@@ -8,7 +9,7 @@ use Rattle.races.specs.Remembered.{Remembers}
 use Rattle.rules.specs.State.{Accessed, Lock, Memory, State}
 use Rattle.rules.specs.Steps.{Operations, outcome}
 use Rattle.word.specs.declared.word.Word.{Word}
-use Rattle.board.specs.Obeying.{Checks, Left, Obeys, Performs}
+use Rattle.board.specs.Obeying.{Checks, Left, Obeys, Performs, answered}
 use Rattle.board.specs.Views.{setting_of, view}
 use Rattle.board.specs.declared.board.Board.{Board}
 
@@ -33,6 +34,11 @@ module _ {P S : Type 0} (words : P → List Word) (ops : Operations S) where
   -- and most often it is the board itself that is left
   pub refused_obeys : (b : Board P S) (c : Call) (r : Refusal) → Checks b c (Some r) → Obeys words ops b b c (Err r)
   refused_obeys b c r told = refused_leaves b b c r told refl refl (λ accesses. refl) (λ accesses m. m) refl
+
+  -- which is what the exit of a `?` gives back
+  pub exit_obeys : {X : Type 0} (b : Board P S) (c : Call) (tell : X → Answer) (a : Result X Refusal) (r : Refusal) → IsErrAnd a (λ e. e ≡ r) → Checks b c (Some r) → Obeys words ops b b c (answered tell a)
+  exit_obeys b c tell (Ok x) r exit told = absurd exit
+  exit_obeys b c tell (Err e) r exit told = rw exit (refused_obeys b c r told)
 
   -- a call that no check refuses obeys where it is performed
   pub performed_obeys : (before after : Board P S) (c : Call) (a : Result Answer Refusal) → Checks before c None → Performs words ops before after c a → Obeys words ops before after c a
