@@ -4,6 +4,7 @@ mod Clears
 mod Marks
 mod Opens
 mod Performing
+mod Refusing
 mod Remembering
 pub mod Playing
 pub mod Whole
