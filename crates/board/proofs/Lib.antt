@@ -1,7 +1,6 @@
 -- Lemmas about checks in a row, and about what calls leave.
 mod Checks
 mod Clears
-mod Marks
 mod Opens
 mod Performing
 mod Refusing
