@@ -1,5 +1,5 @@
 -- The first of some rows that is met, where the rows come in parts one after another. Assumes nothing.
-use Rattle.std.proofs.Common.{◌≡◌, ℕ, List, [], ◌∷◌, ◌++◌, IfOk, Some, None, Ok, Err, Option, Result, refl, arith}
+use Rattle.std.proofs.Common.{◌≡◌, List, [], ◌∷◌, ◌++◌, IfOk, Some, None, Ok, Err, Option, Result, refl, arith}
 use Rattle.rules.specs.Tables.{first}
 
 -- a row that is met in the first part is the first of all

@@ -5,7 +5,6 @@ use Rattle.std.specs.Result.{IsErrAnd}
 use Rattle.call.specs.declared.answer.Answer.{Answer}
 use Rattle.call.specs.declared.call.Call.{Call}
 use Rattle.call.specs.declared.refusal.Refusal.{Refusal}
-use Rattle.races.specs.Remembered.{Remembers}
 use Rattle.rules.specs.State.{Accessed, Lock, Memory, State}
 use Rattle.rules.specs.Steps.{Operations, outcome}
 use Rattle.word.specs.declared.word.Word.{Word}
