@@ -35,21 +35,21 @@ play_length ops b s g (d ∷ cs) =
 -- the records of calls with as many answers
 pub records_length : (cs : List Call) (answers : List (Result Answer Refusal)) → length answers ≡ length cs → length (records_of cs answers) ≡ length cs
 records_length [] answers e = refl
-records_length (c ∷ cs) [] e = let no_way : ⊥ = omega arith in absurd no_way
+records_length (c ∷ cs) [] e = grind arith
 records_length (c ∷ cs) (a ∷ answers) e = ap suc (records_length cs answers (omega arith))
 
 pub records_more : (cs : List Call) (answers : List (Result Answer Refusal)) (c : Call) (a : Result Answer Refusal) → length answers ≡ length cs → records_of (cs ++ (c ∷ [])) (answers ++ (a ∷ [])) ≡ records_of cs answers ++ (record_of c a ∷ [])
 records_more [] [] c a e = refl
-records_more [] (x ∷ answers) c a e = let no_way : ⊥ = omega arith in absurd no_way
-records_more (d ∷ cs) [] c a e = let no_way : ⊥ = omega arith in absurd no_way
+records_more [] (x ∷ answers) c a e = grind arith
+records_more (d ∷ cs) [] c a e = grind arith
 records_more (d ∷ cs) (x ∷ answers) c a e =
     ap (λ (l : List AnswerRecord). record_of d x ∷ l) (records_more cs answers c a (omega arith))
 
 -- the answers that stand in them
 pub answers_back : (cs : List Call) (answers : List (Result Answer Refusal)) → length answers ≡ length cs → answers_in (records_of cs answers) ≡ answers
 answers_back [] [] e = refl
-answers_back [] (x ∷ answers) e = let no_way : ⊥ = omega arith in absurd no_way
-answers_back (d ∷ cs) [] e = let no_way : ⊥ = omega arith in absurd no_way
+answers_back [] (x ∷ answers) e = grind arith
+answers_back (d ∷ cs) [] e = grind arith
 answers_back (d ∷ cs) (x ∷ answers) e = ap (λ (l : List (Result Answer Refusal)). x ∷ l) (answers_back cs answers (omega arith))
 
 -- a table whose first records are known takes one more

@@ -32,12 +32,12 @@ module _ (locks : ℕ → Lock) (cores core lock : ℕ) (less : core < 8) (passe
 module _ {X : Type 0} where
   -- what an answer tells of the rows, and of what it gives
   pub told_err : (o : Option Refusal) (x : X) (r : Refusal) → Err r ≡ answered o x → Some r ≡ o
-  told_err None x r e = let z : ◌≡◌ {A = ℕ} 0 1 = cc in let no_way : ⊥ = omega arith in absurd no_way
+  told_err None x r e = grind arith
   told_err (Some s) x r e = cc
 
   pub told_ok : (o : Option Refusal) (x y : X) → Ok y ≡ answered o x → (None ≡ o) × (y ≡ x)
   told_ok None x y e = (refl, cc)
-  told_ok (Some s) x y e = let z : ◌≡◌ {A = ℕ} 0 1 = cc in let no_way : ⊥ = omega arith in absurd no_way
+  told_ok (Some s) x y e = grind arith
 
 -- what is left where the rows are known
 pub left_refused : (o : Option Refusal) (r : Refusal) (before after : ℕ → Lock) → Some r ≡ o → left o before after ≡ before

@@ -18,11 +18,11 @@ pub record Accepted (r : Result Says JobFault) (f : Five) (room : ℕ) : Type 0 
   pub room_enough : length (calls_read r) ≤ room
 
 pub accepted : (r : Result Says JobFault) (f : Five) (room : ℕ) → Ok f ≡ checked_with (figures_read r) (calls_read r) room → Accepted r f room
-accepted (Err e) f room told = let z : ◌≡◌ {A = ℕ} 0 1 = cc in let no_way : ⊥ = omega arith in absurd no_way
+accepted (Err e) f room told = grind arith
 accepted (Ok s) f room told = go (ltb room (length s.calls)) refl told
   where
     go : (b : Bool) → ltb room (length s.calls) ≡ b → Ok f ≡ cond b (Err Table) (Ok s.figures) → Accepted (Ok s) f room
-    go true short t = let z : ◌≡◌ {A = ℕ} 0 1 = cc in let no_way : ⊥ = omega arith in absurd no_way
+    go true short t = grind arith
     go false long t =
         record {
           what = s;
@@ -39,7 +39,7 @@ refused (Ok s) e room told = go (ltb room (length s.calls)) refl told
   where
     go : (b : Bool) → ltb room (length s.calls) ≡ b → Err e ≡ cond b (Err Table) (Ok s.figures) → with_room (Ok s) room ≡ Err e
     go true short t = let same : e ≡ Table = cc in ap (λ (b : Bool). cond b (Err Table) (Ok s)) short ∙ ap Err (sym same)
-    go false long t = let z : ◌≡◌ {A = ℕ} 0 1 = cc in let no_way : ⊥ = omega arith in absurd no_way
+    go false long t = grind arith
 
 -- what was opened stands for what was read
 pub opened_as : (found : Result Five JobFault) (f g : Result Five JobFault) (cs ds : List Call) (room : ℕ) → f ≡ g → cs ≡ ds → found ≡ checked_with f cs room → found ≡ checked_with g ds room

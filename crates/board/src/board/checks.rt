@@ -85,6 +85,7 @@ impl<P: PageStore, S: Signature> Board<P, S> {
     }
 
     // The core may make one store more.
+    #[tactic(auto, unfolding(crate::specs::Views::counts_of))]
     fn check_allowance(&self, core: Core) -> Result<(), Refusal>
         ensures told { refused_by result ≡ when (nat_le (figures self.now.memory.figures).allowance (counts_of self.now.counts core.number)) refusals.AllowanceSpent }
         ensures allowed { OnOk result (counts_of self.now.counts core.number < 1000000) }

@@ -14,6 +14,7 @@ use page::PageStore;
 use signature::Signature;
 
 // Clears the signatures of all cores, in rising order.
+#[tactic(auto, using(crate::proofs::Clears::cleared_more))]
 pub(super) fn clear_all<S: Signature>(signature: &mut S)
     ensures { signature.new ≡ changed_by S.operations signature.old clear_all }
 {

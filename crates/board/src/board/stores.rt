@@ -30,6 +30,7 @@ fn sign<S: Signature>(signature: &mut S, mode: Mode, core: Core, word: Place)
 
 impl<P: PageStore, S: Signature> Board<P, S> {
     // The mark of the core's next store.
+    #[tactic(auto, unfolding(crate::specs::Views::counts_of))]
     fn next_mark(&self, core: Core) -> Mark
         requires { counts_of self.now.counts core.number < 1000000 }
         ensures { result ≡ mark_at (mark_of core.number (counts_of self.now.counts core.number + 1)) }
@@ -39,6 +40,7 @@ impl<P: PageStore, S: Signature> Board<P, S> {
     }
 
     // A store that no check refuses.
+    #[tactic(auto, unfolding(crate::specs::Views::counts_of))]
     fn put(&mut self, core: Core, word: Place, value: u32) -> (Owner, Mark)
         requires { counts_of self.old.counts core.number < 1000000 }
         ensures { Performs P.words S.operations self.old self.new (Store core.number word.number value) (Ok (store_given result)) }

@@ -11,7 +11,7 @@ use Rattle.play.proofs.player.play_all.Goals as goal
 pub loop-at-init : goal.loop-at-init
 loop-at-init g c =
     rw (c.into_iter-at-iterator.ensures.into_iter_gives, c.enumerate-at-items.ensures.source, c.enumerate-at-items.ensures.count)
-    (omega arith, c.requires.0, plays_none g.P.PageStore.words g.S.Signature.operations c.args.board.now c.args.answers.now)
+    (omega arith, c.requires.0, plays_none _ _ _ _)
 
 pub loop-at-preserved : goal.loop-at-preserved
 loop-at-preserved g c =

@@ -1,44 +1,31 @@
 use Rattle.std.proofs.Common.{◌∙◌}
-use Rattle.std.proofs.lemmas.Result.{err_from_is_err_and}
-use Rattle.call.specs.declared.call.Call.TheVariants.{Evict}
-use Rattle.rules.specs.Refusals.{rows}
-use Rattle.board.specs.Views.{setting_of, ledger_of}
-use Rattle.board.proofs.Checks.{first_met, first_past, row_met, row_past}
+use Rattle.board.proofs.Refusing.{exit_told, place_met, waiting_met, waiting_past}
 use Rattle.board.proofs.board.Board.check_load.Goals as goal
 
 pub returns-in_err-core-clause-told : goal.returns-in_err-core-clause-told
-returns-in_err-core-clause-told g c =
-    let b = c.args.self.now in
-    let p = err_from_is_err_and c.from_residual.result c.from_residual.ensures.1 in
-    rw (p.1, p.2) (λ accesses m. first_met (rows (setting_of b) (ledger_of b accesses) (Evict c.args.core c.args.word)) _ _ (c.in_err-core.ensures.told accesses m))
+returns-in_err-core-clause-told g c accesses m =
+    exit_told _ _ c.from_residual.ensures.1
+    ∙ place_met c.args.self.now accesses c.args.core c.args.word _ _ (c.in_err-core.ensures.told accesses m)
 
 pub returns-in_err-check_waiting-clause-told : goal.returns-in_err-check_waiting-clause-told
-returns-in_err-check_waiting-clause-told g c =
-    let b = c.args.self.now in
-    let p = err_from_is_err_and c.from_residual-in_err-check_waiting.result c.from_residual-in_err-check_waiting.ensures.1 in
+returns-in_err-check_waiting-clause-told g c accesses m =
     let waiting = rw c.in_ok-core.ensures.found.0 at c.in_err-check_waiting.ensures in
-    rw (p.1, p.2) (λ accesses m. row_met _ _ _ waiting ∙ first_past (rows (setting_of b) (ledger_of b accesses) (Evict c.args.core c.args.word)) _ (c.in_ok-core.ensures.told accesses m))
+    exit_told _ _ c.from_residual-in_err-check_waiting.ensures.1
+    ∙ waiting_met c.args.self.now accesses c.args.core c.args.word (c.in_ok-core.ensures.told accesses m) _ _ waiting
 
 pub returns-in_err-check_load_mode-clause-told : goal.returns-in_err-check_load_mode-clause-told
-returns-in_err-check_load_mode-clause-told g c =
-    let b = c.args.self.now in
-    let p = err_from_is_err_and c.from_residual-in_err-check_load_mode.result c.from_residual-in_err-check_load_mode.ensures.1 in
+returns-in_err-check_load_mode-clause-told g c accesses m =
     let found = c.in_ok-core.ensures.found in
-    let waiting = rw found.0 at c.in_ok-check_waiting.ensures in
+    let free = rw found.0 at c.in_ok-check_waiting.ensures in
     let mode = rw (found.0, found.1) at c.in_err-check_load_mode.ensures in
-    rw (p.1, p.2)
-    (λ accesses m.
-    mode accesses m
-    ∙ (row_past _ _ waiting
-    ∙ first_past (rows (setting_of b) (ledger_of b accesses) (Evict c.args.core c.args.word)) _ (c.in_ok-core.ensures.told accesses m)))
+    exit_told _ _ c.from_residual-in_err-check_load_mode.ensures.1
+    ∙ (mode accesses m
+    ∙ waiting_past c.args.self.now accesses c.args.core c.args.word (c.in_ok-core.ensures.told accesses m) _ free)
 
 pub returns-clause-told : goal.returns-clause-told
-returns-clause-told g c =
-    let b = c.args.self.now in
+returns-clause-told g c accesses m =
     let found = c.in_ok-core.ensures.found in
-    let waiting = rw found.0 at c.in_ok-check_waiting.ensures in
+    let free = rw found.0 at c.in_ok-check_waiting.ensures in
     let mode = rw (found.0, found.1) at c.in_ok-check_load_mode.ensures in
-    λ accesses m.
     mode accesses m
-    ∙ (row_past _ _ waiting
-    ∙ first_past (rows (setting_of b) (ledger_of b accesses) (Evict c.args.core c.args.word)) _ (c.in_ok-core.ensures.told accesses m))
+    ∙ waiting_past c.args.self.now accesses c.args.core c.args.word (c.in_ok-core.ensures.told accesses m) _ free

@@ -1,4 +1,4 @@
-use Rattle.std.proofs.Common.{ℕ, ◌<◌, sym, subst, refl, arith, Ok}
+use Rattle.std.proofs.Common.{refl, arith, Ok}
 use Rattle.call.specs.declared.answer.Answer.TheVariants.{Stored}
 use Rattle.memory.proofs.Views.{limited}
 use Rattle.board.specs.Views.{counts_of}
@@ -6,12 +6,6 @@ use Rattle.board.proofs.Counts.{counts_set}
 use Rattle.board.proofs.Performing.{same_state}
 use Rattle.board.proofs.Remembering.{some_kept}
 use Rattle.board.proofs.board.Board.put.Goals as goal
-
-pub overflow_add-self : goal.overflow_add-self
-unfolding counts_of
-overflow_add-self g c =
-    let few = subst (λ (n : ℕ). counts_of c.args.self.now.counts n < 1000000) (sym c.from.ensures) c.requires in
-    omega (arith, few)
 
 pub invariant_of-self-clause-some : goal.invariant_of-self-clause-some
 invariant_of-self-clause-some g c = some_kept c.args.self.now.races c.note.new.self _ c.note.ensures c.args.self.now.some
