@@ -1,17 +1,12 @@
 use Rattle.std.proofs.Common.{◌≡◌, ℕ, ◌+◌, ◌≤◌, length, drop, take, slice_set, sym, ◌∙◌, subst, add-one, arith}
 use Rattle.std.proofs.lemmas.List.{take_all}
-use Rattle.board.proofs.Whole.{plays_none, plays_next}
+use Rattle.board.proofs.Whole.{plays_next}
 use Rattle.board.specs.Obeying.{Obeys, record_of}
 use Rattle.board.specs.Runs.{Plays}
 use Rattle.call.specs.declared.call.Call.{Call}
 use Rattle.job.specs.Jobs.{calls_of, rest}
 use Rattle.play.proofs.Turns.{read_call, all_read}
 use Rattle.play.proofs.player.play_all.Goals as goal
-
-pub loop-at-init : goal.loop-at-init
-loop-at-init g c =
-    rw (c.into_iter-at-iterator.ensures.into_iter_gives, c.enumerate-at-items.ensures.source, c.enumerate-at-items.ensures.count)
-    (omega arith, c.requires.0, plays_none _ _ _ _)
 
 pub loop-at-preserved : goal.loop-at-preserved
 loop-at-preserved g c =
