@@ -12,4 +12,4 @@ up_to_limit (Some given) limit before job kept l b k e =
 pub returns-clause-bytes : goal.returns-clause-bytes
 returns-clause-bytes g c =
     subst (λ r. IfSome (g.R.Read.remaining r) (λ given. c.truncate.new.self.items ≡ take 65536 given)) c.take.ensures.inner
-    (up_to_limit (g.R.Read.remaining c.take.result.inner) c.take.result.limit c.new-job.result.items c.read_to_end.new.buf.items c.truncate.new.self.items c.take.ensures.limit c.new-job.ensures.items c.truncate.ensures.items c.in_ok-read_to_end.ensures.bytes)
+    (up_to_limit (g.R.Read.remaining c.take.result.inner) c.take.result.limit c.in_ok-job.job.items c.read_to_end.new.buf.items c.truncate.new.self.items c.take.ensures.limit c.in_ok-job.ensures.items c.truncate.ensures.items c.in_ok-read_to_end.ensures.bytes)
