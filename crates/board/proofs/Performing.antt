@@ -5,6 +5,7 @@ use Rattle.std.specs.Result.{IsErrAnd}
 use Rattle.call.specs.declared.answer.Answer.{Answer}
 use Rattle.call.specs.declared.call.Call.{Call}
 use Rattle.call.specs.declared.refusal.Refusal.{Refusal}
+use Rattle.races.specs.Remembered.{Remembers}
 use Rattle.rules.specs.State.{Accessed, Lock, Memory, State}
 use Rattle.rules.specs.Steps.{Operations, outcome}
 use Rattle.word.specs.declared.word.Word.{Word}
@@ -18,17 +19,21 @@ same_state {accesses = accesses} memory locks counts plan =
     λ i. record { memory = memory i; ledger = record { locks = locks i; counts = counts i; plan = plan i; accesses = accesses } }
 
 module _ {P S : Type 0} (words : P → List Word) (ops : Operations S) where
-  -- a refused call leaves the board itself
-  refused_obeys : (b : Board P S) (c : Call) (r : Refusal) → Checks b c (Some r) → Obeys words ops b b c (Err r)
-  refused_obeys b c r told =
+  -- a refused call leaves everything as it stood, as far as the rules see it
+  pub refused_leaves : (b after : Board P S) (c : Call) (r : Refusal) → Checks b c (Some r) → after.memory.figures ≡ b.memory.figures → after.size ≡ b.size → ((accesses : List Accessed) → view words after accesses ≡ view words b accesses) → ((accesses : List Accessed) → Remembers b.races accesses → Remembers after.races accesses) → after.signature ≡ b.signature → Obeys words ops b after c (Err r)
+  refused_leaves b after c r told figures size same remembers signature =
       record {
-        figures = refl;
-        size = refl;
+        figures = figures;
+        size = size;
         some = b.some;
         rules = λ accesses m.
-            subst (λ (o : Option Refusal). Left words ops b b (Err r) (outcome o (setting_of b) (ops.holds b.signature) (view words b accesses) c)) (told accesses m)
-            (record { answer = refl; state = refl; remembers = m; signature = refl });
+            subst (λ (o : Option Refusal). Left words ops b after (Err r) (outcome o (setting_of b) (ops.holds b.signature) (view words b accesses) c)) (told accesses m)
+            (record { answer = refl; state = same accesses; remembers = remembers accesses m; signature = signature });
       }
+
+  -- and it is the board itself that is left
+  pub refused_obeys : (b : Board P S) (c : Call) (r : Refusal) → Checks b c (Some r) → Obeys words ops b b c (Err r)
+  refused_obeys b c r told = refused_leaves b b c r told refl refl (λ accesses. refl) (λ accesses m. m) refl
 
   -- which is what the exit of a `?` gives back
   pub exit_obeys : {X : Type 0} (b : Board P S) (c : Call) (tell : X → Answer) (a : Result X Refusal) (r : Refusal) → IsErrAnd a (λ e. e ≡ r) → Checks b c (Some r) → Obeys words ops b b c (answered tell a)
