@@ -1,7 +1,7 @@
 -- Going through the records of a job one by one: the place of the first that is against its layout, and records that each
 -- spell a call. Assumes nothing.
 use Rattle.std.proofs.Common.{◌≡◌, ℕ, zero, suc, ◌+◌, ◌-◌, ◌*◌, Bool, true, not, cond, ltb, List, [], ◌∷◌, ◌++◌, length, drop, is_some, Some, None, Option, sym, refl, ap, ◌∙◌, subst, arith}
-use Rattle.std.proofs.lemmas.List.{length-drop, drop-drop}
+use Rattle.std.proofs.lemmas.List.{length-drop, drop-drop, drop_all}
 use Rattle.std.specs.List.{position, position_or_len}
 use Rattle.std.specs.Option.{option_map, option_to_list}
 use Rattle.call.specs.declared.call.Call.{Call}
@@ -55,6 +55,10 @@ left_spells zero place [] h = tt
 left_spells (suc k) place [] h = tt
 left_spells zero place (r ∷ rs) h = grind arith
 left_spells (suc k) place (r ∷ rs) h = left_spells k (place + 13) rs (grind arith)
+
+-- at the end of the records none is left
+pub within_none : (rs : List (List ℕ)) → [] ≡ drop (length rs - 0) rs
+within_none rs = sym (drop_all (length rs - 0) rs (omega arith))
 
 -- one record is read of those left: the rest of them are still an end of all, and the calls left begin with the call that it spells
 module _ (rs left more : List (List ℕ)) (r : List ℕ) (within : left ≡ drop (length rs - length left) rs) (e : left ≡ r ∷ more) where

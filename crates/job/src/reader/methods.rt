@@ -125,6 +125,7 @@ impl<'a> Job<'a> {
     }
 
     /// Reads the next call; none where all were read.
+    #[tactic(auto, using(crate::proofs::Records::within_more, crate::proofs::Records::within_none))]
     pub fn next_call(&mut self) -> Option<Call>
         ensures value { result ≡ first (rest self.old) }
         ensures after { rest self.new ≡ drop 1 (rest self.old) }

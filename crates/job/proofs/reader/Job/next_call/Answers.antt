@@ -1,11 +1,6 @@
 use Rattle.std.proofs.Common.{rules}
-use Rattle.job.proofs.Records.{within_more, call_read}
+use Rattle.job.proofs.Records.{call_read}
 use Rattle.job.proofs.reader.Job.next_call.Goals as goal
-
-pub invariant_of-self-clause-within : goal.invariant_of-self-clause-within
-invariant_of-self-clause-within c =
-    let job = c.args.self.now in
-    within_more job.records.now job.left.now c.in_ok-record.left.now c.in_ok-record.record.now job.within c.in_ok-record.ensures.cases.0
 
 pub returns : goal.returns
 returns c =
