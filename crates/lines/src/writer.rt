@@ -11,7 +11,7 @@ pub(crate) struct Writer<'a> {
     pub(crate) end: usize,
 }
 
-// Always inlined: a call for each number of a line made lines take two to three times as long.
+// Always inlined: with a call for each number, lines of short numbers took up to three times as long.
 impl Writer<'_> {
     // Adds a byte.
     #[inline(always)]
